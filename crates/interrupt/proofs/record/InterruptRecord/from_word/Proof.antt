@@ -1,0 +1,40 @@
+-- `InterruptRecord::from_word` is `recordOf`, by what its callees ensure.
+use borrow.Author.Needs.{needs}
+use native.Mathlib.Nat.{div-one}
+use Rattle.interrupt.specs.Word.{recordOf}
+use Rattle.interrupt.proofs.record.InterruptRecord.from_word.Statement.{statement}
+use Rattle.interrupt.proofs.record.InterruptRecord.from_word.Tie as tie
+
+cast-t21 : tie.Need-cast-t21
+cast-t21 c = search needs
+
+trigger-of-requires : tie.Need-trigger-of-requires
+trigger-of-requires c κs = search needs
+
+cast-mask-of : tie.Need-cast-mask-of
+cast-mask-of c = search needs
+
+mask-of-requires : tie.Need-mask-of-requires
+mask-of-requires c κs = search needs
+
+cast-owner-of : tie.Need-cast-owner-of
+cast-owner-of c = search needs
+
+owner-of-requires : tie.Need-owner-of-requires
+owner-of-requires c κs = search needs
+
+returns : tie.Need-returns
+unfolding recordOf
+returns c = simp (c .owner-of .ensures, c .before .mask-of .ensures, c .before .before .trigger-of .ensures, div-one)
+
+pub from-word-spec : {M : Type 1} → statement M
+from-word-spec =
+    tie.close
+    (tie.spec
+    cast-t21
+    trigger-of-requires
+    cast-mask-of
+    mask-of-requires
+    cast-owner-of
+    owner-of-requires
+    returns)

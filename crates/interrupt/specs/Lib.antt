@@ -1,0 +1,4 @@
+pub mod Types
+pub mod Record
+pub mod Fields
+pub mod Word

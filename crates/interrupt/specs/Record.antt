@@ -1,0 +1,181 @@
+-- One interrupt's record and its transitions. Document 01, "Port order" 1: "All its transitions exactly as the Rust, less routes", so each
+-- definition stands beside the function of interrupt.rs that its comment names, line by line; what the states mean is IHI 0048's "Interrupt
+-- handling state machine". A chain of `with..` is read from the inside: it says field by field what is new, and all else stays.
+-- Left out on purpose: the interrupt's number, which is the record's place in the lent state, and the affinity route.
+use mathlib.Core.Bool.{Bool, true, false, not, cond, _&&_, _||_}
+use Prim.Native.Nat.{ℕ}
+use Rattle.interrupt.specs.Types.{isSgi, isLevel, startingTrigger, pendingIn, activeIn}
+use Rattle.interrupt.specs.declared.types.IntId.{IntId}
+use Rattle.interrupt.specs.declared.types.Priority.{Priority}
+use Rattle.interrupt.specs.declared.types.TriggerMode.{TriggerMode}
+use Rattle.interrupt.specs.declared.types.InterruptState.{InterruptState}
+use Rattle.interrupt.specs.declared.types.InterruptState.the-variants.{Inactive, Pending, Active, ActivePending}
+use Rattle.interrupt.specs.declared.record.CpuTargetMask.{CpuTargetMask}
+use Rattle.interrupt.specs.declared.record.CpuTargetMask.the-variants.{Unset, Mask}
+use Rattle.interrupt.specs.declared.record.Owner.{Owner}
+use Rattle.interrupt.specs.declared.record.Owner.the-variants.{Nobody}
+use Rattle.interrupt.specs.declared.record.InterruptRecord.{InterruptRecord}
+use Rattle.interrupt.specs.declared.record.Synchronized.{Synchronized}
+
+-- a record by its fields, in their order
+abbrev pub made : Bool → Bool → Bool → Bool → Bool → Bool → Priority → TriggerMode → CpuTargetMask → Owner → InterruptRecord
+made e p a i d l q t m o = record {
+  enabled = e;
+  pending = p;
+  active = a;
+  inflight = i;
+  «redelivery_pending» = d;
+  «line_asserted» = l;
+  priority = q;
+  trigger = t;
+  «cpu_target_mask» = m;
+  owner = o;
+}
+
+-- the record r with one field new
+abbrev pub withEnabled : Bool → InterruptRecord → InterruptRecord
+withEnabled x r = made x (r .pending) (r .active) (r .inflight) (r .«redelivery_pending») (r .«line_asserted») (r .priority) (r .trigger) (r .«cpu_target_mask») (r .owner)
+
+abbrev pub withPending : Bool → InterruptRecord → InterruptRecord
+withPending x r = made (r .enabled) x (r .active) (r .inflight) (r .«redelivery_pending») (r .«line_asserted») (r .priority) (r .trigger) (r .«cpu_target_mask») (r .owner)
+
+abbrev pub withActive : Bool → InterruptRecord → InterruptRecord
+withActive x r = made (r .enabled) (r .pending) x (r .inflight) (r .«redelivery_pending») (r .«line_asserted») (r .priority) (r .trigger) (r .«cpu_target_mask») (r .owner)
+
+abbrev pub withInflight : Bool → InterruptRecord → InterruptRecord
+withInflight x r = made (r .enabled) (r .pending) (r .active) x (r .«redelivery_pending») (r .«line_asserted») (r .priority) (r .trigger) (r .«cpu_target_mask») (r .owner)
+
+abbrev pub withRedelivery : Bool → InterruptRecord → InterruptRecord
+withRedelivery x r = made (r .enabled) (r .pending) (r .active) (r .inflight) x (r .«line_asserted») (r .priority) (r .trigger) (r .«cpu_target_mask») (r .owner)
+
+abbrev pub withLine : Bool → InterruptRecord → InterruptRecord
+withLine x r = made (r .enabled) (r .pending) (r .active) (r .inflight) (r .«redelivery_pending») x (r .priority) (r .trigger) (r .«cpu_target_mask») (r .owner)
+
+abbrev pub withPriority : Priority → InterruptRecord → InterruptRecord
+withPriority x r = made (r .enabled) (r .pending) (r .active) (r .inflight) (r .«redelivery_pending») (r .«line_asserted») x (r .trigger) (r .«cpu_target_mask») (r .owner)
+
+abbrev pub withTrigger : TriggerMode → InterruptRecord → InterruptRecord
+withTrigger x r = made (r .enabled) (r .pending) (r .active) (r .inflight) (r .«redelivery_pending») (r .«line_asserted») (r .priority) x (r .«cpu_target_mask») (r .owner)
+
+abbrev pub withMask : CpuTargetMask → InterruptRecord → InterruptRecord
+withMask x r = made (r .enabled) (r .pending) (r .active) (r .inflight) (r .«redelivery_pending») (r .«line_asserted») (r .priority) (r .trigger) x (r .owner)
+
+abbrev pub withOwner : Owner → InterruptRecord → InterruptRecord
+withOwner x r = made (r .enabled) (r .pending) (r .active) (r .inflight) (r .«redelivery_pending») (r .«line_asserted») (r .priority) (r .trigger) (r .«cpu_target_mask») x
+
+-- `new`: only an SGI starts enabled; the priority is IHI's reset value; no target mask is set, and nobody serves it
+unfoldable pub newRecord : IntId → TriggerMode → InterruptRecord
+newRecord n t = made (isSgi n) false false false false false (record { 0 = 0 }) t Unset Nobody
+
+-- what the interrupt n has after setup
+unfoldable pub startingRecord : IntId → InterruptRecord
+startingRecord n = newRecord n (startingTrigger n)
+
+-- `set_enabled`: to enable an interrupt whose line is asserted pends it
+unfoldable pub setEnabled : InterruptRecord → Bool → InterruptRecord
+setEnabled r e = withPending (cond (e && r .«line_asserted») true (r .pending)) (withEnabled e r)
+
+-- `set_pending`: clearing takes the redelivery note with it
+unfoldable pub setPending : InterruptRecord → Bool → InterruptRecord
+setPending r p = withRedelivery (cond (not p) false (r .«redelivery_pending»)) (withPending p r)
+
+-- `set_active`
+unfoldable pub setActive : InterruptRecord → Bool → InterruptRecord
+setActive r a = withActive a r
+
+-- `state`: of the pending and the active bit
+abbrev pub stateFrom : Bool → Bool → InterruptState
+stateFrom false false = Inactive
+stateFrom true false = Pending
+stateFrom false true = Active
+stateFrom true true = ActivePending
+
+unfoldable pub stateOf : InterruptRecord → InterruptState
+stateOf r = stateFrom (r .pending) (r .active)
+
+-- `set_state`
+unfoldable pub setState : InterruptRecord → InterruptState → InterruptRecord
+setState r s = withActive (activeIn s) (withPending (pendingIn s) r)
+
+-- `has_delivery_state`
+unfoldable pub hasDeliveryState : InterruptRecord → Bool
+hasDeliveryState r = r .pending || r .active || r .inflight || r .«redelivery_pending»
+
+-- `clear_delivery_state`: the line too
+unfoldable pub clearDeliveryState : InterruptRecord → InterruptRecord
+clearDeliveryState r = withLine false (withRedelivery false (withInflight false (withActive false (withPending false r))))
+
+-- `mark_inflight`
+unfoldable pub markInflight : InterruptRecord → InterruptRecord
+markInflight r = withInflight true r
+
+-- `synchronize_inflight`: the note counts as pending in the merged state; merged into "active and pending", it is spent
+abbrev pub noteMerged : InterruptRecord → InterruptRecord
+noteMerged r = withPending (r .pending || r .«redelivery_pending») r
+
+abbrev pub noteSpent : InterruptRecord → InterruptRecord
+noteSpent r = withRedelivery (cond (r .pending && r .active) false (r .«redelivery_pending»)) r
+
+unfoldable pub synchronizeInflight : InterruptRecord → InterruptState → Synchronized
+synchronizeInflight r s = record {
+  after = noteSpent (noteMerged (setState r s));
+  merged = stateOf (noteMerged (setState r s));
+}
+
+-- `cancel_inflight`: what was noted becomes pending
+unfoldable pub cancelInflight : InterruptRecord → InterruptRecord
+cancelInflight r = withRedelivery false (withInflight false (noteMerged r))
+
+-- a level interrupt whose line is still asserted
+unfoldable pub held : InterruptRecord → Bool
+held r = isLevel (r .trigger) && r .«line_asserted»
+
+-- `finish_inflight`: pending again if that was noted, or if its line is held
+unfoldable pub finishInflight : InterruptRecord → InterruptRecord
+finishInflight r = withRedelivery false (withPending (r .«redelivery_pending» || held r) (withActive false (withInflight false r)))
+
+-- `deactivate_inflight`: the same, or if the delivery itself was pending
+unfoldable pub deactivateInflight : InterruptRecord → Bool → InterruptRecord
+deactivateInflight r p = withRedelivery false (withPending (p || r .«redelivery_pending» || held r) (withActive false (withInflight false r)))
+
+-- `set_priority`
+unfoldable pub setPriority : InterruptRecord → Priority → InterruptRecord
+setPriority r q = withPriority q r
+
+-- `set_trigger`
+unfoldable pub setTrigger : InterruptRecord → TriggerMode → InterruptRecord
+setTrigger r t = withTrigger t r
+
+-- `set_cpu_target_mask`
+unfoldable pub setCpuTargetMask : InterruptRecord → ℕ → InterruptRecord
+setCpuTargetMask r m = withMask (Mask m) r
+
+-- who serves it, or nobody (in the Rust a delivery slot)
+unfoldable pub setOwner : InterruptRecord → Owner → InterruptRecord
+setOwner r o = withOwner o r
+
+-- `set_level`: an asserted line pends, and if it rises while the interrupt is served, that is noted; a line that falls takes back what a
+-- level interrupt had pending, unless it is active
+abbrev pub risesInService : InterruptRecord → Bool → Bool
+risesInService r a = r .inflight && r .active && (a && not (r .«line_asserted»))
+
+abbrev pub fallsIdle : InterruptRecord → Bool → Bool
+fallsIdle r a = not a && (isLevel (r .trigger) && not (r .active))
+
+unfoldable pub setLevel : InterruptRecord → Bool → InterruptRecord
+setLevel r a =
+    withRedelivery (cond (risesInService r a) true (cond (fallsIdle r a) false (r .«redelivery_pending»)))
+    (withPending (cond a true (cond (fallsIdle r a) false (r .pending)))
+    (withLine a r))
+
+-- `pulse`: pending; noted for redelivery while in flight
+unfoldable pub pulse : InterruptRecord → InterruptRecord
+pulse r = withRedelivery (cond (r .inflight) true (r .«redelivery_pending»)) (withPending true r)
+
+-- `complete`: no longer active; pending if its line is held
+unfoldable pub complete : InterruptRecord → InterruptRecord
+complete r = withPending (cond (held r) true (r .pending)) (withActive false r)
+
+-- `deliverable`
+unfoldable pub deliverable : InterruptRecord → Bool
+deliverable r = r .enabled && r .pending

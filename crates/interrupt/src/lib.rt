@@ -1,0 +1,16 @@
+// The lowest layer: interrupt numbers, vCPU numbers and priorities, one interrupt's record with its transitions, and the
+// record's word in the lent state. Mirrors types.rs (unseen) and interrupt.rs of the Rust.
+pub mod record;
+pub mod types;
+pub mod word;
+
+pub use record::CpuTargetMask;
+pub use record::InterruptRecord;
+pub use record::Owner;
+pub use record::Synchronized;
+pub use types::DecodedIntId;
+pub use types::GicVcpuId;
+pub use types::IntId;
+pub use types::InterruptState;
+pub use types::Priority;
+pub use types::TriggerMode;
