@@ -1,4 +1,2 @@
 pub mod Types
 pub mod Record
-pub mod Fields
-pub mod Word

@@ -1,8 +1,7 @@
-// The lowest layer: interrupt numbers, vCPU numbers and priorities, one interrupt's record with its transitions, and the
-// record's word in the lent state. Mirrors types.rs (unseen) and interrupt.rs of the Rust.
+// The lowest layer: interrupt numbers, vCPU numbers and priorities, and one interrupt's record
+// with its transitions. Mirrors types.rs (unseen) and interrupt.rs of the Rust.
 pub mod record;
 pub mod types;
-pub mod word;
 
 pub use record::CpuTargetMask;
 pub use record::InterruptRecord;

@@ -1,7 +1,7 @@
 -- `owner_byte` is `ownerByte`: each way by the variant that was found.
 use borrow.Author.Needs.{needs}
-use Rattle.interrupt.proofs.word.owner_byte.Statement.{statement}
-use Rattle.interrupt.proofs.word.owner_byte.Tie as tie
+use Rattle.word.proofs.owner_byte.Statement.{statement}
+use Rattle.word.proofs.owner_byte.Tie as tie
 
 enum-told : tie.Need-enum-told
 enum-told c = search needs

@@ -1,7 +1,7 @@
 -- `mask_of` is `maskOf`: each way by its test.
 use borrow.Author.Needs.{needs}
-use Rattle.interrupt.proofs.word.mask_of.Statement.{statement}
-use Rattle.interrupt.proofs.word.mask_of.Tie as tie
+use Rattle.word.proofs.mask_of.Statement.{statement}
+use Rattle.word.proofs.mask_of.Tie as tie
 
 returns : tie.Need-returns
 returns c = simp (c .if1 .taken)

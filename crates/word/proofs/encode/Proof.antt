@@ -1,10 +1,10 @@
--- `InterruptRecord::to_word` is `wordOf`: the flags, and three bytes above them.
+-- `encode` is `wordOf`: the flags, and three bytes above them.
 use borrow.Author.Needs.{needs}
 use native.Mathlib.Omega.{arith}
-use Rattle.interrupt.specs.Fields.{packed}
-use Rattle.interrupt.specs.Word.{wordOf}
-use Rattle.interrupt.proofs.record.InterruptRecord.to_word.Statement.{statement}
-use Rattle.interrupt.proofs.record.InterruptRecord.to_word.Tie as tie
+use Rattle.word.specs.Fields.{packed}
+use Rattle.word.specs.Word.{wordOf}
+use Rattle.word.proofs.encode.Statement.{statement}
+use Rattle.word.proofs.encode.Tie as tie
 
 flags-requires : tie.Need-flags-requires
 flags-requires c κs = search needs
@@ -46,8 +46,8 @@ returns : tie.Need-returns
 unfolding packed wordOf
 returns c = omega arith
 
-pub to-word-spec : {M : Type 1} → statement M
-to-word-spec =
+pub encode-spec : {M : Type 1} → statement M
+encode-spec =
     tie.close
     (tie.spec
     flags-requires

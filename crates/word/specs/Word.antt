@@ -6,16 +6,16 @@ use mathlib.Core.Path.{_≡_}
 use mathlib.Core.List.{List, [], _∷_}
 use Prim.Native.Nat.{ℕ, _+_, _-_, _%_, _^_, _<_}
 use lib.Dec.{eqb}
 use Rattle.interrupt.specs.Types.{isLevel}
 use Rattle.interrupt.specs.Record.{made}
-use Rattle.interrupt.specs.Fields.{Field, bits, field, packed}
+use Rattle.word.specs.Fields.{Field, bits, field, packed}
 use Rattle.interrupt.specs.declared.types.TriggerMode.{TriggerMode}
 use Rattle.interrupt.specs.declared.types.TriggerMode.the-variants.{Level, Edge}
 use Rattle.interrupt.specs.declared.record.CpuTargetMask.{CpuTargetMask}
 use Rattle.interrupt.specs.declared.record.CpuTargetMask.the-variants.{Unset, Mask}
 use Rattle.interrupt.specs.declared.record.Owner.{Owner}
 use Rattle.interrupt.specs.declared.record.Owner.the-variants.{Nobody, Vcpu}
 use Rattle.interrupt.specs.declared.record.InterruptRecord.{InterruptRecord}
 
 -- bit `place` of w
 abbrev pub flag : ℕ → ℕ → Bool

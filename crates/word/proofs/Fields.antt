@@ -7,7 +7,7 @@ use native.Mathlib.Nat.{div-one, mod-one, zero-div, zero-mod, add-comm}
 use native.Mathlib.Omega.{arith}
 use lib.Arith.{digits-lt}
 use lib.Pow.{pow-add, shr-shr, high, low, mod-pow-add}
-use Rattle.interrupt.specs.Fields.{Field, bits, field, packed}
+use Rattle.word.specs.Fields.{Field, bits, field, packed}
 
 -- each value fits its width
 abbrev pub Fit : List Field → Type 0

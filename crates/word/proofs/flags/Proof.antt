@@ -1,9 +1,9 @@
--- `InterruptRecord::flags` is the word of the flags alone: each is 0 or 1, so that no sum wraps.
+-- `flags` is the word of the flags alone: each is 0 or 1, so that no sum wraps.
 use borrow.Author.Needs.{needs}
 use native.Mathlib.Omega.{arith}
-use Rattle.interrupt.specs.Fields.{packed}
-use Rattle.interrupt.proofs.record.InterruptRecord.flags.Statement.{statement}
-use Rattle.interrupt.proofs.record.InterruptRecord.flags.Tie as tie
+use Rattle.word.specs.Fields.{packed}
+use Rattle.word.proofs.flags.Statement.{statement}
+use Rattle.word.proofs.flags.Tie as tie
 
 bit-requires : tie.Need-bit-requires
 bit-requires c κs = search needs

@@ -8,18 +8,18 @@ use native.Mathlib.Nat.{div-one, mod-lt, mod-eq-of-lt}
 use native.Mathlib.Omega.{arith}
 use lib.Dec.{eqb}
 use borrow.Author.Tests.{eqb-true, eqb-false, ne-eqb}
-use Rattle.interrupt.proofs.Fields.{Fit, breadth, at, place, packed-fits, field-packed, fieldsFrom, sum, packed-fields}
+use Rattle.word.proofs.Fields.{Fit, breadth, at, place, packed-fits, field-packed, fieldsFrom, sum, packed-fields}
 use Rattle.interrupt.specs.Types.{isLevel}
-use Rattle.interrupt.specs.Fields.{Field, bits, field, packed}
+use Rattle.word.specs.Fields.{Field, bits, field, packed}
 use Rattle.interrupt.specs.Record.{made}
-use Rattle.interrupt.specs.Word.{flag, triggerOf, maskOf, ownerOf, recordOf, bitOf, isSet, maskByte, ownerByte, fieldsOf, wordOf, ownerInRange, InRange, Canonical}
+use Rattle.word.specs.Word.{flag, triggerOf, maskOf, ownerOf, recordOf, bitOf, isSet, maskByte, ownerByte, fieldsOf, wordOf, ownerInRange, InRange, Canonical}
 use Rattle.interrupt.specs.declared.types.TriggerMode.{TriggerMode}
 use Rattle.interrupt.specs.declared.types.TriggerMode.the-variants.{Level, Edge}
 use Rattle.interrupt.specs.declared.record.CpuTargetMask.{CpuTargetMask}
 use Rattle.interrupt.specs.declared.record.CpuTargetMask.the-variants.{Unset, Mask}
 use Rattle.interrupt.specs.declared.record.Owner.{Owner}
 use Rattle.interrupt.specs.declared.record.Owner.the-variants.{Nobody, Vcpu}
 use Rattle.interrupt.specs.declared.record.InterruptRecord.{InterruptRecord}
 
 -- each part of a record, written and read back
 bit-fits : (b : Bool) → bitOf b < 2 ^ 1

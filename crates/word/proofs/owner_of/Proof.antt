@@ -1,8 +1,8 @@
 -- `owner_of` is `ownerOf`: each way by its test.
 use borrow.Author.Needs.{needs}
 use borrow.Author.Tests.{eq-eqb, ne-eqb}
-use Rattle.interrupt.proofs.word.owner_of.Statement.{statement}
-use Rattle.interrupt.proofs.word.owner_of.Tie as tie
+use Rattle.word.proofs.owner_of.Statement.{statement}
+use Rattle.word.proofs.owner_of.Tie as tie
 
 sub-t4 : tie.Need-sub-t4
 sub-t4 c = search needs

@@ -1,9 +1,9 @@
--- `InterruptRecord::from_word` is `recordOf`, by what its callees ensure.
+-- `decode` is `recordOf`, by what its callees ensure.
 use borrow.Author.Needs.{needs}
 use native.Mathlib.Nat.{div-one}
-use Rattle.interrupt.specs.Word.{recordOf}
-use Rattle.interrupt.proofs.record.InterruptRecord.from_word.Statement.{statement}
-use Rattle.interrupt.proofs.record.InterruptRecord.from_word.Tie as tie
+use Rattle.word.specs.Word.{recordOf}
+use Rattle.word.proofs.decode.Statement.{statement}
+use Rattle.word.proofs.decode.Tie as tie
 
 cast-t21 : tie.Need-cast-t21
 cast-t21 c = search needs
@@ -27,8 +27,8 @@ returns : tie.Need-returns
 unfolding recordOf
 returns c = simp (c .owner-of .ensures, c .before .mask-of .ensures, c .before .before .trigger-of .ensures, div-one)
 
-pub from-word-spec : {M : Type 1} → statement M
-from-word-spec =
+pub decode-spec : {M : Type 1} → statement M
+decode-spec =
     tie.close
     (tie.spec
     cast-t21
