@@ -1,4 +1,4 @@
--- A record's word (DESIGN: one record is one word of the lent state). From the lowest bit: enabled, pending, active, in flight, redelivery
+-- A record's word: one record is one word of the lent state. From the lowest bit: enabled, pending, active, in flight, redelivery
 -- noted, line asserted, edge, target mask set; then three bytes, the priority, the target mask, and the owner (0 for nobody, v + 1 for vCPU
 -- v). Every word is exactly one record, as document 01 asks ("any stored bits decode to exactly one record").
 use mathlib.Core.Bool.{Bool, true, false, not, cond}

@@ -1,0 +1,201 @@
+//! Prints what every transition of interrupt.rs gives on every record state, in the form of the Rattle program `interrupt_states`.
+//!
+//! The types below stand in for those that interrupt.rs imports: document 01 gives their values.
+use std::io::{self, BufWriter, Write};
+
+#[derive(Clone, Copy, Debug, PartialEq, Eq)]
+pub struct GicAffinity;
+
+#[derive(Clone, Copy, Debug, PartialEq, Eq)]
+#[allow(dead_code)] // the numbers are the type's, and no transition reads them
+pub enum IntId {
+    Sgi(u32),
+    Ppi(u32),
+    Spi(u32),
+}
+
+impl IntId {
+    fn new(raw: u32) -> Option<Self> {
+        match raw {
+            0..16 => Some(Self::Sgi(raw)),
+            16..32 => Some(Self::Ppi(raw)),
+            32..1020 => Some(Self::Spi(raw)),
+            _ => None,
+        }
+    }
+}
+
+#[derive(Clone, Copy, Debug, PartialEq, Eq)]
+pub struct Priority(u8);
+
+impl Priority {
+    pub const DEFAULT: Self = Self(0);
+}
+
+#[derive(Clone, Copy, Debug, PartialEq, Eq)]
+pub enum TriggerMode {
+    Level,
+    Edge,
+}
+
+#[derive(Clone, Copy, Debug, PartialEq, Eq)]
+pub enum InterruptState {
+    Inactive,
+    Pending,
+    Active,
+    ActivePending,
+}
+
+#[allow(dead_code)] // routes, and what only other files of the crate call
+mod file {
+    include!(concat!(env!("OUT_DIR"), "/root.rs"));
+    pub(crate) use interrupt::{InterruptRecord, access};
+}
+use file::{InterruptRecord, access, access::Start};
+
+/// One line of results. The Rust has no owner in the record: what the line starts with stays.
+struct Row<'a, W: Write> {
+    out: &'a mut W,
+    owner: char,
+}
+
+impl<W: Write> Row<'_, W> {
+    fn show(&mut self, record: &InterruptRecord) -> io::Result<()> {
+        let hidden = access::hidden(record);
+        let flag = |set: bool, letter: char| if set { letter } else { '-' };
+        let mask = record
+            .cpu_target_mask()
+            .map_or("..".into(), |mask| format!("{mask:02x}"));
+        write!(
+            self.out,
+            " {}{}{}{}{}{}{}:{:02x}:{mask}:{}",
+            flag(record.enabled(), 'E'),
+            flag(record.pending(), 'P'),
+            flag(record.active(), 'A'),
+            flag(hidden.inflight, 'I'),
+            flag(hidden.redelivery_pending, 'R'),
+            flag(hidden.line_asserted, 'L'),
+            if record.trigger() == TriggerMode::Level {
+                'l'
+            } else {
+                'e'
+            },
+            record.priority().0,
+            self.owner,
+        )
+    }
+
+    /// The record after `change`, made anew from `start`.
+    fn after(
+        &mut self,
+        start: &Start,
+        change: impl FnOnce(&mut InterruptRecord),
+    ) -> io::Result<()> {
+        let mut record = access::make(start);
+        change(&mut record);
+        self.show(&record)
+    }
+
+    fn truth(&mut self, b: bool) -> io::Result<()> {
+        write!(self.out, " {}", if b { "yes" } else { "no" })
+    }
+
+    fn state(&mut self, state: InterruptState) -> io::Result<()> {
+        write!(self.out, " {state:?}")
+    }
+
+    fn all(&mut self, start: &Start) -> io::Result<()> {
+        use InterruptState::{Active, ActivePending, Inactive, Pending};
+        let states = [Inactive, Pending, Active, ActivePending];
+        let record = access::make(start);
+        self.show(&record)?;
+        self.state(record.state())?;
+        self.truth(record.has_delivery_state())?;
+        self.truth(record.deliverable())?;
+        for b in [false, true] {
+            self.after(start, |r| r.set_enabled(b))?;
+        }
+        for b in [false, true] {
+            self.after(start, |r| r.set_pending(b))?;
+        }
+        for b in [false, true] {
+            self.after(start, |r| r.set_active(b))?;
+        }
+        for state in states {
+            self.after(start, |r| r.set_state(state))?;
+        }
+        self.after(start, |r| r.clear_delivery_state())?;
+        self.after(start, |r| r.mark_inflight())?;
+        for state in states {
+            let mut record = access::make(start);
+            let merged = record.synchronize_inflight(state);
+            self.show(&record)?;
+            self.state(merged)?;
+        }
+        self.after(start, |r| r.cancel_inflight())?;
+        self.after(start, |r| r.finish_inflight())?;
+        for b in [false, true] {
+            self.after(start, |r| r.deactivate_inflight(b))?;
+        }
+        self.after(start, |r| r.complete())?;
+        for b in [false, true] {
+            self.after(start, |r| r.set_level(b))?;
+        }
+        self.after(start, |r| r.pulse())?;
+        for priority in [0, 128, 255] {
+            self.after(start, |r| r.set_priority(Priority(priority)))?;
+        }
+        for trigger in [TriggerMode::Level, TriggerMode::Edge] {
+            self.after(start, |r| r.set_trigger(trigger))?;
+        }
+        for mask in [0, 165, 255] {
+            self.after(start, |r| r.set_cpu_target_mask(mask))?;
+        }
+        writeln!(self.out)
+    }
+}
+
+fn main() -> io::Result<()> {
+    let mut out = BufWriter::new(io::stdout().lock());
+    for raw in 0..1024 {
+        write!(out, "{raw}")?;
+        let mut row = Row {
+            out: &mut out,
+            owner: '.',
+        };
+        match IntId::new(raw) {
+            Some(intid) => {
+                for trigger in [TriggerMode::Level, TriggerMode::Edge] {
+                    row.show(&InterruptRecord::new(intid, trigger))?;
+                }
+            }
+            None => write!(row.out, " none")?,
+        }
+        writeln!(out)?;
+    }
+    for (priority, mask, owner) in [
+        (0, None, '.'),
+        (0x80, Some(0), '2'),
+        (0xff, Some(0xa5), '7'),
+    ] {
+        for low in 0..128 {
+            let trigger = if low < 64 {
+                TriggerMode::Level
+            } else {
+                TriggerMode::Edge
+            };
+            let start = Start {
+                flags: low % 64,
+                trigger,
+                priority,
+                mask,
+            };
+            Row {
+                out: &mut out,
+                owner,
+            }
+            .all(&start)?;
+        }
+    }
+    out.flush()
+}
