@@ -1,6 +1,6 @@
 -- One interrupt's record and its transitions. Document 01, "Port order" 1: "All its transitions exactly as the Rust, less routes", so each
 -- definition stands beside the function of interrupt.rs that its comment names, line by line; what the states mean is IHI 0048's "Interrupt
--- handling state machine". A chain of `with..` is read from the inside: it says field by field what is new, and all else stays.
+-- handling state machine", and the registers that its comment names are IHI 0048's that reach it. A chain of `with..` is read from the inside: it says field by field what is new, and all else stays.
 -- Left out on purpose: the interrupt's number, which is the record's place in the lent state, and the affinity route.
 use mathlib.Core.Bool.{Bool, true, false, not, cond, _&&_, _||_}
 use Prim.Native.Nat.{ℕ}
@@ -71,15 +71,15 @@ newRecord n t = made (isSgi n) false false false false false (record { 0 = 0 }) 
 unfoldable pub startingRecord : IntId → InterruptRecord
 startingRecord n = newRecord n (startingTrigger n)
 
--- `set_enabled`: to enable an interrupt whose line is asserted pends it
+-- `set_enabled` (GICD_ISENABLERn, GICD_ICENABLERn): to enable an interrupt whose line is asserted pends it
 unfoldable pub setEnabled : InterruptRecord → Bool → InterruptRecord
 setEnabled r e = withPending (cond (e && r .«line_asserted») true (r .pending)) (withEnabled e r)
 
--- `set_pending`: clearing takes the redelivery note with it
+-- `set_pending` (GICD_ISPENDRn, GICD_ICPENDRn, GICD_SGIR): clearing takes the redelivery note with it
 unfoldable pub setPending : InterruptRecord → Bool → InterruptRecord
 setPending r p = withRedelivery (cond (not p) false (r .«redelivery_pending»)) (withPending p r)
 
--- `set_active`
+-- `set_active` (GICD_ISACTIVERn, GICD_ICACTIVERn)
 unfoldable pub setActive : InterruptRecord → Bool → InterruptRecord
 setActive r a = withActive a r
 
@@ -105,11 +105,11 @@ hasDeliveryState r = r .pending || r .active || r .inflight || r .«redelivery_p
 unfoldable pub clearDeliveryState : InterruptRecord → InterruptRecord
 clearDeliveryState r = withLine false (withRedelivery false (withInflight false (withActive false (withPending false r))))
 
--- `mark_inflight`
+-- `mark_inflight` (GICC_IAR)
 unfoldable pub markInflight : InterruptRecord → InterruptRecord
 markInflight r = withInflight true r
 
--- `synchronize_inflight`: the note counts as pending in the merged state; merged into "active and pending", it is spent
+-- `synchronize_inflight` (GICC_IAR): the note counts as pending in the merged state; merged into "active and pending", it is spent
 abbrev pub noteMerged : InterruptRecord → InterruptRecord
 noteMerged r = withPending (r .pending || r .«redelivery_pending») r
 
@@ -122,7 +122,7 @@ synchronizeInflight r s = record {
   merged = stateOf (noteMerged (setState r s));
 }
 
--- `cancel_inflight`: what was noted becomes pending
+-- `cancel_inflight` (GICD_ICACTIVERn): what was noted becomes pending
 unfoldable pub cancelInflight : InterruptRecord → InterruptRecord
 cancelInflight r = withRedelivery false (withInflight false (noteMerged r))
 
@@ -134,19 +134,19 @@ held r = isLevel (r .trigger) && r .«line_asserted»
 unfoldable pub finishInflight : InterruptRecord → InterruptRecord
 finishInflight r = withRedelivery false (withPending (r .«redelivery_pending» || held r) (withActive false (withInflight false r)))
 
--- `deactivate_inflight`: the same, or if the delivery itself was pending
+-- `deactivate_inflight` (GICC_EOIR, GICC_DIR): the same, or if the delivery itself was pending
 unfoldable pub deactivateInflight : InterruptRecord → Bool → InterruptRecord
 deactivateInflight r p = withRedelivery false (withPending (p || r .«redelivery_pending» || held r) (withActive false (withInflight false r)))
 
--- `set_priority`
+-- `set_priority` (GICD_IPRIORITYRn)
 unfoldable pub setPriority : InterruptRecord → Priority → InterruptRecord
 setPriority r q = withPriority q r
 
--- `set_trigger`
+-- `set_trigger` (GICD_ICFGRn)
 unfoldable pub setTrigger : InterruptRecord → TriggerMode → InterruptRecord
 setTrigger r t = withTrigger t r
 
--- `set_cpu_target_mask`
+-- `set_cpu_target_mask` (GICD_ITARGETSRn)
 unfoldable pub setCpuTargetMask : InterruptRecord → ℕ → InterruptRecord
 setCpuTargetMask r m = withMask (Mask m) r
 
@@ -154,7 +154,7 @@ setCpuTargetMask r m = withMask (Mask m) r
 unfoldable pub setOwner : InterruptRecord → Owner → InterruptRecord
 setOwner r o = withOwner o r
 
--- `set_level`: an asserted line pends, and if it rises while the interrupt is served, that is noted; a line that falls takes back what a
+-- `set_level` (a device's line): an asserted line pends, and if it rises while the interrupt is served, that is noted; a line that falls takes back what a
 -- level interrupt had pending, unless it is active
 abbrev pub risesInService : InterruptRecord → Bool → Bool
 risesInService r a = r .inflight && r .active && (a && not (r .«line_asserted»))
@@ -168,11 +168,11 @@ setLevel r a =
     (withPending (cond a true (cond (fallsIdle r a) false (r .pending)))
     (withLine a r))
 
--- `pulse`: pending; noted for redelivery while in flight
+-- `pulse` (a device's edge): pending; noted for redelivery while in flight
 unfoldable pub pulse : InterruptRecord → InterruptRecord
 pulse r = withRedelivery (cond (r .inflight) true (r .«redelivery_pending»)) (withPending true r)
 
--- `complete`: no longer active; pending if its line is held
+-- `complete` (GICC_EOIR, GICC_DIR, where nothing is in flight): no longer active; pending if its line is held
 unfoldable pub complete : InterruptRecord → InterruptRecord
 complete r = withPending (cond (held r) true (r .pending)) (withActive false r)
 

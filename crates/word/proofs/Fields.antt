@@ -1,9 +1,9 @@
 -- Laws of fields in a word, once for every place and width: a packed field is read back, fields that fit give a word that fits, and the
 -- fields read off a word pack to it. Assumes nothing.
-use mathlib.Core.Path.{_≡_, refl, sym, ap, _∙_}
+use mathlib.Core.Path.{_≡_, refl, sym}
 use mathlib.Core.List.{List, [], _∷_}
 use Prim.Native.Nat.{ℕ, zero, suc, _+_, _*_, _/_, _%_, _^_, _<_}
-use native.Mathlib.Nat.{div-one, mod-one, zero-div, zero-mod, add-comm}
+use native.Mathlib.Nat.{div-one, mod-one, add-comm}
 use native.Mathlib.Omega.{arith}
 use lib.Arith.{digits-lt}
 use lib.Pow.{pow-add, shr-shr, high, low, mod-pow-add}

@@ -50,6 +50,7 @@ abbrev pub maskByte : CpuTargetMask → ℕ
 maskByte Unset = 0
 maskByte (Mask byte) = byte
 
+-- v + 1 for every v below 255; any other v stays an owner too, so that encoding asks nothing
 abbrev pub ownerByte : Owner → ℕ
 ownerByte Nobody = 0
 ownerByte (Vcpu v) = v .0 % 255 + 1

@@ -76,7 +76,7 @@ fn mask_byte(mask: CpuTargetMask) -> u8
     }
 }
 
-// A vCPU number is below 255 here; the remainder says so to the cast.
+// The remainder is the number itself below 255, and lets any owner be encoded.
 fn owner_byte(owner: Owner) -> u8
     ensures { λ r. ⌜ r ≡ ownerByte owner ⌝ }
 {
