@@ -153,7 +153,7 @@ fn newline() {
     io::write_all(STDOUT_FILENO, b"\n");
 }
 
-// The new record of a number at both triggers, and the one that it starts with.
+// The new record of a number at both triggers.
 fn new_row(raw: u32) {
     io::print_decimal(STDOUT_FILENO, raw as u64);
     let DecodedIntId::Valid(intid) = IntId::new(raw) else {
@@ -185,7 +185,15 @@ fn states(above: u32)
     }
 }
 
+// Nothing above uses all of these yet: `expect` has their values proved, by document 01.
+fn constants() {
+    check::expect(IntId::SPURIOUS.0 == 1023);
+    check::expect(Priority::IDLE.0 == 255);
+    check::expect(Priority::DEFAULT.0 == 0);
+}
+
 fn main() {
+    constants();
     for raw in 0..1024 {
         new_row(raw);
     }
