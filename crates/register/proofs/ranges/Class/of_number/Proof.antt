@@ -1,0 +1,126 @@
+use mathlib.Core.Path.{_≡_}
+use Prim.Native.Nat.{ℕ, _+_, _≤_}
+use native.Mathlib.Omega.{arith}
+use Rattle.register.specs.Ranges.{ranges, rangeNumbered, classOf}
+use Rattle.register.proofs.Map.{numbered-past}
+use Rattle.register.proofs.ranges.Class.of_number.Statement.{statement}
+use Rattle.register.proofs.ranges.Class.of_number.Tie as tie
+use Rattle.register.proofs.ranges.Class.of_number.Reads as reads
+use Rattle.register.proofs.ranges.Class.of_number.Lts as lts
+
+-- a number from k up that is none of the next four
+four : (k n : ℕ) → k ≤ n → (n ≡ k → ⊥) → (n ≡ k + 1 → ⊥) → (n ≡ k + 2 → ⊥) → (n ≡ k + 3 → ⊥) → k + 4 ≤ n
+four k n h a b d e = omega arith
+
+-- src/ranges.rt:142:5
+returns : tie.Need-returns
+unfolding classOf rangeNumbered ranges
+returns c = simp (c .match .keys1)
+
+-- src/ranges.rt:142:5
+returns-2 : tie.Need-returns-2
+unfolding classOf rangeNumbered ranges
+returns-2 c = simp (c .match .keys2)
+
+-- src/ranges.rt:142:5
+returns-3 : tie.Need-returns-3
+unfolding classOf rangeNumbered ranges
+returns-3 c = simp (c .match .keys3)
+
+-- src/ranges.rt:142:5
+returns-4 : tie.Need-returns-4
+unfolding classOf rangeNumbered ranges
+returns-4 c = simp (c .match .keys4)
+
+-- src/ranges.rt:142:5
+returns-5 : tie.Need-returns-5
+unfolding classOf rangeNumbered ranges
+returns-5 c = simp (c .match .keys5)
+
+-- src/ranges.rt:142:5
+returns-6 : tie.Need-returns-6
+unfolding classOf rangeNumbered ranges
+returns-6 c = simp (c .match .keys6)
+
+-- src/ranges.rt:142:5
+returns-7 : tie.Need-returns-7
+unfolding classOf rangeNumbered ranges
+returns-7 c = simp (c .match .keys7)
+
+-- src/ranges.rt:142:5
+returns-8 : tie.Need-returns-8
+unfolding classOf rangeNumbered ranges
+returns-8 c = simp (c .match .keys8)
+
+-- src/ranges.rt:142:5
+returns-9 : tie.Need-returns-9
+unfolding classOf rangeNumbered ranges
+returns-9 c = simp (c .match .keys9)
+
+-- src/ranges.rt:142:5
+returns-10 : tie.Need-returns-10
+unfolding classOf rangeNumbered ranges
+returns-10 c = simp (c .match .keys10)
+
+-- src/ranges.rt:142:5
+returns-11 : tie.Need-returns-11
+unfolding classOf rangeNumbered ranges
+returns-11 c = simp (c .match .keys11)
+
+-- src/ranges.rt:142:5
+returns-12 : tie.Need-returns-12
+unfolding classOf rangeNumbered ranges
+returns-12 c = simp (c .match .keys12)
+
+-- src/ranges.rt:142:5
+returns-13 : tie.Need-returns-13
+unfolding classOf rangeNumbered ranges
+returns-13 c = simp (c .match .keys13)
+
+-- src/ranges.rt:142:5
+returns-14 : tie.Need-returns-14
+unfolding classOf rangeNumbered ranges
+returns-14 c = simp (c .match .keys14)
+
+-- src/ranges.rt:142:5
+returns-15 : tie.Need-returns-15
+unfolding classOf rangeNumbered ranges
+returns-15 c = simp (c .match .keys15)
+
+-- src/ranges.rt:142:5
+returns-16 : tie.Need-returns-16
+unfolding classOf rangeNumbered ranges
+returns-16 c = simp (c .match .keys16)
+
+-- src/ranges.rt:142:5
+returns-17 : tie.Need-returns-17
+unfolding classOf rangeNumbered ranges
+returns-17 c =
+    let r = c .match .rest in
+    let n = c .before .args .number in
+    let from4 : 4 ≤ n = four 0 n (omega arith) (r .0 .0 .0 .0 .0 .0 .0 .0 .0 .0 .0 .0 .0 .0 .0 .1) (r .0 .0 .0 .0 .0 .0 .0 .0 .0 .0 .0 .0 .0 .0 .1) (r .0 .0 .0 .0 .0 .0 .0 .0 .0 .0 .0 .0 .0 .1) (r .0 .0 .0 .0 .0 .0 .0 .0 .0 .0 .0 .0 .1) in
+    let from8 : 8 ≤ n = four 4 n from4 (r .0 .0 .0 .0 .0 .0 .0 .0 .0 .0 .0 .1) (r .0 .0 .0 .0 .0 .0 .0 .0 .0 .0 .1) (r .0 .0 .0 .0 .0 .0 .0 .0 .0 .1) (r .0 .0 .0 .0 .0 .0 .0 .0 .1) in
+    let from12 : 12 ≤ n = four 8 n from8 (r .0 .0 .0 .0 .0 .0 .0 .1) (r .0 .0 .0 .0 .0 .0 .1) (r .0 .0 .0 .0 .0 .1) (r .0 .0 .0 .0 .1) in
+    simp (numbered-past n (four 12 n from12 (r .0 .0 .0 .1) (r .0 .0 .1) (r .0 .1) (r .1)))
+
+pub of-number-spec : {M : Type 1} → statement M
+of-number-spec =
+    tie.close
+    (tie.spec
+    returns
+    returns-2
+    returns-3
+    returns-4
+    returns-5
+    returns-6
+    returns-7
+    returns-8
+    returns-9
+    returns-10
+    returns-11
+    returns-12
+    returns-13
+    returns-14
+    returns-15
+    returns-16
+    returns-17)

@@ -1,0 +1,83 @@
+-- The Distributor's register map: IHI 0048, Table 4-1, "Distributor register map", as document 01 has it under "Distributor places".
+-- Document 01 departs from the table in nothing but the ends: the byte arrays IPRIORITYR and ITARGETSR are 1,020 bytes long, a byte for
+-- each number below 1020, so that 0x7FC and 0xBFC are other places. NSACR, the identification registers and what IHI leaves to the
+-- implementer are no registers here: "Every other place .. reads 0 and ignores writes".
+use mathlib.Core.Bool.{Bool, true, false, cond, _&&_}
+use mathlib.Core.List.{List, [], _∷_}
+use Prim.Native.Nat.{ℕ, _+_}
+use lib.Dec.{leb, ltb}
+use lib.ListN.{getD}
+use Rattle.register.specs.declared.ranges.Class.{Class}
+use Rattle.register.specs.declared.ranges.Class.the-variants.{Ctlr, Typer, Iidr, Igroupr, Isenabler, Icenabler, Ispendr, Icpendr, Isactiver, Icactiver, Ipriorityr, Itargetsr, Icfgr, Sgir, Cpendsgir, Spendsgir, Other}
+use Rattle.register.specs.declared.ranges.RegisterRange.{RegisterRange}
+
+abbrev pub range : ℕ → ℕ → Class → RegisterRange
+range first length class = record { first = first; length = length; class = class }
+
+unfoldable pub ranges : List RegisterRange
+ranges =
+    range 0x000 4 Ctlr
+    ∷ range 0x004 4 Typer
+    ∷ range 0x008 4 Iidr
+    ∷ range 0x080 0x80 Igroupr
+    ∷ range 0x100 0x80 Isenabler
+    ∷ range 0x180 0x80 Icenabler
+    ∷ range 0x200 0x80 Ispendr
+    ∷ range 0x280 0x80 Icpendr
+    ∷ range 0x300 0x80 Isactiver
+    ∷ range 0x380 0x80 Icactiver
+    ∷ range 0x400 1020 Ipriorityr
+    ∷ range 0x800 1020 Itargetsr
+    ∷ range 0xc00 0x100 Icfgr
+    ∷ range 0xf00 4 Sgir
+    ∷ range 0xf10 16 Cpendsgir
+    ∷ range 0xf20 16 Spendsgir
+    ∷ []
+
+-- the range of a place that is in no register's
+abbrev pub nowhere : RegisterRange
+nowhere = range 0 0 Other
+
+abbrev pub holds : RegisterRange → ℕ → Bool
+holds r offset = leb (r .first) offset && ltb offset (r .first + r .length)
+
+unfoldable pub rangeIn : List RegisterRange → ℕ → RegisterRange
+rangeIn [] offset = nowhere
+rangeIn (r ∷ rs) offset = cond (holds r offset) r (rangeIn rs offset)
+
+-- the range that holds an offset, and its class; `ranges-apart` shows that no second range holds it
+unfoldable pub rangeAt : ℕ → RegisterRange
+rangeAt offset = rangeIn ranges offset
+
+abbrev pub classAt : ℕ → Class
+classAt offset = rangeAt offset .class
+
+-- the number of a class: the place of its row, and 16 for the other places
+abbrev pub numberOf : Class → ℕ
+numberOf Ctlr = 0
+numberOf Typer = 1
+numberOf Iidr = 2
+numberOf Igroupr = 3
+numberOf Isenabler = 4
+numberOf Icenabler = 5
+numberOf Ispendr = 6
+numberOf Icpendr = 7
+numberOf Isactiver = 8
+numberOf Icactiver = 9
+numberOf Ipriorityr = 10
+numberOf Itargetsr = 11
+numberOf Icfgr = 12
+numberOf Sgir = 13
+numberOf Cpendsgir = 14
+numberOf Spendsgir = 15
+numberOf Other = 16
+
+-- the row at a number, and its class; numbers from 16 up have none
+unfoldable pub rangeNumbered : ℕ → RegisterRange
+rangeNumbered n = getD ranges n nowhere
+
+unfoldable pub classOf : ℕ → Class
+classOf n = rangeNumbered n .class
+
+unfoldable pub rangeOf : Class → RegisterRange
+rangeOf c = rangeNumbered (numberOf c)

@@ -1,0 +1,87 @@
+// What every frame has in common: the widths of an access, the refusals, and the test that an access lies in its frame.
+ghost use mathlib.Core.Path.{_≡_};
+ghost use Rattle.register.specs.Frame.{bytes, isDword, refusalNumber, aligned, inFrame};
+
+// The four widths of an access: no other can be given.
+pub enum AccessWidth {
+    Byte,
+    Word,
+    Dword,
+    Qword,
+}
+
+// Why a call is refused.
+pub enum Refusal {
+    Access,
+    Width,
+    Vcpu,
+    Limits,
+    ShortState,
+    BrokenState,
+    FullStack,
+    Input,
+}
+
+impl AccessWidth {
+    pub fn size(self) -> usize
+        ensures { λ r. ⌜ r ≡ bytes self ⌝ }
+    {
+        match self {
+            AccessWidth::Byte => 1,
+            AccessWidth::Word => 2,
+            AccessWidth::Dword => 4,
+            AccessWidth::Qword => 8,
+        }
+    }
+
+    // A register that is no byte array takes 4 bytes only.
+    pub fn is_dword(self) -> bool
+        ensures { λ r. ⌜ r ≡ isDword self ⌝ }
+    {
+        match self {
+            AccessWidth::Byte => false,
+            AccessWidth::Word => false,
+            AccessWidth::Dword => true,
+            AccessWidth::Qword => false,
+        }
+    }
+
+    // By cases, since a division by a width that is not known is slow.
+    fn aligned(self, offset: u64) -> bool
+        ensures { λ r. ⌜ r ≡ aligned offset self ⌝ }
+    {
+        match self {
+            AccessWidth::Byte => offset % 1 == 0,
+            AccessWidth::Word => offset % 2 == 0,
+            AccessWidth::Dword => offset % 4 == 0,
+            AccessWidth::Qword => offset % 8 == 0,
+        }
+    }
+}
+
+impl Refusal {
+    pub fn number(self) -> u8
+        ensures { λ r. ⌜ r ≡ refusalNumber self ⌝ }
+    {
+        match self {
+            Refusal::Access => 1,
+            Refusal::Width => 2,
+            Refusal::Vcpu => 3,
+            Refusal::Limits => 4,
+            Refusal::ShortState => 5,
+            Refusal::BrokenState => 6,
+            Refusal::FullStack => 7,
+            Refusal::Input => 8,
+        }
+    }
+}
+
+// The end is compared as the room left, so that an offset near 2^64 wraps nothing.
+pub fn validate_frame_access(size: u64, offset: u64, width: AccessWidth) -> bool
+    ensures { λ r. ⌜ r ≡ inFrame size offset width ⌝ }
+{
+    if offset > size {
+        return false;
+    }
+    (width.size() as u64 <= size - offset) & width.aligned(offset)
+}

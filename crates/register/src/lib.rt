@@ -1,0 +1,11 @@
+// The register map: how a frame is accessed, which register of the Distributor or of a CPU interface an access meets, and which
+// accesses are refused for their offset or width alone. It holds no state.
+pub mod dispatch;
+pub mod frame;
+pub mod ranges;
+
+pub use frame::AccessWidth;
+pub use frame::Refusal;
+pub use frame::validate_frame_access;
+pub use ranges::Class;
+pub use ranges::RegisterRange;
