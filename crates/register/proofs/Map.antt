@@ -1,7 +1,7 @@
 -- The laws of the Distributor's map: a class and its number name each other, the ranges lie apart and are made of whole words, and they
 -- end with the frame. Assumes nothing.
-use mathlib.Core.Path.{_≡_, refl, ap, sym, _∙_}
-use mathlib.Core.Bool.{Bool, true, false, _&&_, and-false}
+use mathlib.Core.Path.{_≡_, refl, ap, _∙_}
+use mathlib.Core.Bool.{Bool, true, false, cond, _&&_, and-false}
 use mathlib.Core.List.{List, [], _∷_}
 use Prim.Native.Nat.{ℕ, zero, suc, _+_, _*_, _/_, _%_, _≤_, _<_}
 use native.Mathlib.Nat.{zero-add, le-of-suc-le-suc, not-suc-le-zero}
@@ -141,6 +141,44 @@ held-in (r ∷ rs) o t (suc n) h hit =
 pub ranges-apart : (n o : ℕ) → n < 16 → T (holds (rangeNumbered n) o) → rangeAt o ≡ rangeNumbered n
 unfolding rangeAt rangeNumbered ranges apart behind
 ranges-apart n o h hit = held-in ranges o tt n h hit
+
+-- what holds of each row that holds the offset, and of none, holds of the range at the offset
+abbrev Each : (RegisterRange → Type 0) → List RegisterRange → Type 0
+Each P [] = Unit
+Each P (r ∷ rs) = P r × Each P rs
+
+infixr 20 _&_
+_&_ : {A B : Type 0} → A → B → A × B
+a & b = (a, b)
+
+each : {P : RegisterRange → Type 0} → ((r : RegisterRange) → P r) → (rs : List RegisterRange) → Each P rs
+each p [] = tt
+each p (r ∷ rs) = (p r, each p rs)
+
+by-range : (P : RegisterRange → Type 0) (o : ℕ) (rs : List RegisterRange) → Each (λ r. T (holds r o) → P r) rs → P nowhere → P (rangeIn rs o)
+unfolding rangeIn
+by-range P o [] rows none = none
+by-range P o (r ∷ rs) rows none = go (holds r o) (rows .0) (by-range P o rs (rows .1) none)
+  where
+    go : (b : Bool) → (T b → P r) → P (rangeIn rs o) → P (cond b r (rangeIn rs o))
+    go true p q = p tt
+    go false p q = q
+
+-- the range that holds an offset starts at or before it ..
+pub range-starts : (o : ℕ) → rangeAt o .first ≤ o
+unfolding rangeAt
+range-starts o = by-range (λ r. r .first ≤ o) o ranges (each starts ranges) (omega arith)
+  where
+    starts : (r : RegisterRange) → T (holds r o) → r .first ≤ o
+    starts r t = leb→le (r .first) o (both-left (leb (r .first) o) (ltb o (r .first + r .length)) t)
+
+-- .. and is the range of its class
+pub range-of-class : (o : ℕ) → rangeOf (classAt o) ≡ rangeAt o
+unfolding rangeAt rangeOf rangeNumbered ranges
+range-of-class o =
+    by-range (λ r. rangeOf (r .class) ≡ r) o ranges
+    ((λ t. refl) & (λ t. refl) & (λ t. refl) & (λ t. refl) & (λ t. refl) & (λ t. refl) & (λ t. refl) & (λ t. refl) & (λ t. refl) & (λ t. refl) & (λ t. refl) & (λ t. refl) & (λ t. refl) & (λ t. refl) & (λ t. refl) & (λ t. refl) & tt)
+    refl
 
 -- the class number of each 32-bit place, computed: what the dispatch table has to be
 unfoldable pub classNumbers : List ℕ

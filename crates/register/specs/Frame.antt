@@ -20,6 +20,12 @@ isDword Word = false
 isDword Dword = true
 isDword Qword = false
 
+abbrev pub isQword : AccessWidth → Bool
+isQword Byte = false
+isQword Word = false
+isQword Dword = false
+isQword Qword = true
+
 -- document 01's number of each refusal
 abbrev pub refusalNumber : Refusal → ℕ
 refusalNumber Access = 1

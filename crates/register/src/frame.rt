@@ -1,6 +1,6 @@
 // What every frame has in common: the widths of an access, the refusals, and the test that an access lies in its frame.
 ghost use mathlib.Core.Path.{_≡_};
-ghost use Rattle.register.specs.Frame.{bytes, isDword, refusalNumber, aligned, inFrame};
+ghost use Rattle.register.specs.Frame.{bytes, isDword, isQword, refusalNumber, aligned, inFrame};
 
 // The four widths of an access: no other can be given.
 pub enum AccessWidth {
@@ -43,6 +43,18 @@ impl AccessWidth {
             AccessWidth::Word => false,
             AccessWidth::Dword => true,
             AccessWidth::Qword => false,
+        }
+    }
+
+    // No byte array takes 8 bytes.
+    pub fn is_qword(self) -> bool
+        ensures { λ r. ⌜ r ≡ isQword self ⌝ }
+    {
+        match self {
+            AccessWidth::Byte => false,
+            AccessWidth::Word => false,
+            AccessWidth::Dword => false,
+            AccessWidth::Qword => true,
         }
     }
 

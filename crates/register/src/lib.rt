@@ -1,9 +1,13 @@
 // The register map: how a frame is accessed, which register of the Distributor or of a CPU interface an access meets, and which
 // accesses are refused for their offset or width alone. It holds no state.
 pub mod dispatch;
+pub mod distributor;
 pub mod frame;
 pub mod ranges;
 
+pub use distributor::DistributorAccess;
+pub use distributor::Place;
+pub use distributor::locate_distributor;
 pub use frame::AccessWidth;
 pub use frame::Refusal;
 pub use frame::validate_frame_access;
