@@ -102,9 +102,9 @@ within Priorities offset width = byteArray offset width
 within Bytes offset width = byteArray offset width
 within Nothing offset width = At elsewhere
 
-unfoldable pub locatedInFrame : ℕ → AccessWidth → DistributorAccess
-locatedInFrame offset width = within (layoutOf (classAt offset)) offset width
+unfoldable pub locateInFrame : ℕ → AccessWidth → DistributorAccess
+locateInFrame offset width = within (layoutOf (classAt offset)) offset width
 
 -- an access, by its offset and width alone: "1, then 2", in a frame of 0x1000 bytes
-unfoldable pub located : ℕ → AccessWidth → DistributorAccess
-located offset width = cond (inFrame 0x1000 offset width) (locatedInFrame offset width) (Refused Access)
+unfoldable pub locateDistributor : ℕ → AccessWidth → DistributorAccess
+locateDistributor offset width = cond (inFrame 0x1000 offset width) (locateInFrame offset width) (Refused Access)

@@ -1,3 +1,4 @@
 pub mod Frame
 pub mod Ranges
 pub mod Distributor
+pub mod CpuInterface

@@ -1,6 +1,6 @@
 // Where an access to the Distributor falls.
 ghost use mathlib.Core.Path.{_≡_};
-ghost use Rattle.register.specs.Distributor.{layoutOf, numbersPerByte, isBanked, Found, placeAt, unfit, single, bitWord, byteArray, locatedInFrame, located};
+ghost use Rattle.register.specs.Distributor.{layoutOf, numbersPerByte, isBanked, Found, placeAt, unfit, single, bitWord, byteArray, locateInFrame, locateDistributor};
 use crate::dispatch::class_at;
 use crate::frame::AccessWidth;
 use crate::frame::Refusal;
@@ -173,7 +173,7 @@ fn byte_array_at(class: Class, offset: u64, width: AccessWidth) -> DistributorAc
 
 fn locate_in_frame(class: Class, offset: u64, width: AccessWidth) -> DistributorAccess
     requires { ⌜ Found class offset ⌝ }
-    ensures { λ r. ⌜ r ≡ locatedInFrame offset width ⌝ }
+    ensures { λ r. ⌜ r ≡ locateInFrame offset width ⌝ }
 {
     match class.layout() {
         Layout::Single => single_at(class, offset, width),
@@ -186,7 +186,7 @@ fn locate_in_frame(class: Class, offset: u64, width: AccessWidth) -> Distributor
 }
 
 pub fn locate_distributor(offset: u64, width: AccessWidth) -> DistributorAccess
-    ensures { λ r. ⌜ r ≡ located offset width ⌝ }
+    ensures { λ r. ⌜ r ≡ locateDistributor offset width ⌝ }
 {
     if validate_frame_access(DISTRIBUTOR_SIZE, offset, width) {
         locate_in_frame(class_at(offset), offset, width)

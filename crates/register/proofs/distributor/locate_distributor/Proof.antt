@@ -1,6 +1,6 @@
 use mathlib.Core.Path.{sym, _∙_}
 use borrow.Author.Needs.{needs}
-use Rattle.register.specs.Distributor.{located}
+use Rattle.register.specs.Distributor.{locateDistributor}
 use Rattle.register.proofs.Access.{in-frame-below}
 use Rattle.register.proofs.distributor.locate_distributor.Statement.{statement}
 use Rattle.register.proofs.distributor.locate_distributor.Tie as tie
@@ -30,12 +30,12 @@ locate-in-frame-requires c κs =
 
 -- src/distributor.rt:188:1
 returns : tie.Need-returns
-unfolding located
+unfolding locateDistributor
 returns c = simp (← c .before .before .before .validate-frame-access .ensures, c .before .before .if1 .taken, c .locate-in-frame .ensures)
 
 -- src/distributor.rt:188:1
 returns-2 : tie.Need-returns-2
-unfolding located
+unfolding locateDistributor
 returns-2 c = simp (← c .before .validate-frame-access .ensures, c .if1 .left)
 
 pub locate-distributor-spec : {M : Type 1} → statement M

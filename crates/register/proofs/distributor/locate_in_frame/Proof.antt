@@ -3,7 +3,7 @@ use Prim.Native.Nat.{ℕ}
 use borrow.Author.Needs.{needs}
 use Rattle.register.specs.declared.ranges.Class.{Class}
 use Rattle.register.specs.declared.distributor.Layout.{Layout}
-use Rattle.register.specs.Distributor.{layoutOf, Found, locatedInFrame}
+use Rattle.register.specs.Distributor.{layoutOf, Found, locateInFrame}
 use Rattle.register.specs.Ranges.{classAt}
 use Rattle.register.proofs.distributor.locate_in_frame.Statement.{statement}
 use Rattle.register.proofs.distributor.locate_in_frame.Tie as tie
@@ -68,42 +68,42 @@ enum-told-6 c = search needs
 
 -- src/distributor.rt:174:1
 returns : tie.Need-returns
-unfolding locatedInFrame
+unfolding locateInFrame
 returns c =
     simp
     (arm (c .before .before .before .before .pre) (c .before .before .before .layout .ensures) (c .before .enum-told .given .1), c .single-at .ensures)
 
 -- src/distributor.rt:174:1
 returns-2 : tie.Need-returns-2
-unfolding locatedInFrame
+unfolding locateInFrame
 returns-2 c =
     simp
     (arm (c .before .before .before .before .pre) (c .before .before .before .layout .ensures) (c .before .enum-told2 .given .1), c .bit-word-at .ensures)
 
 -- src/distributor.rt:174:1
 returns-3 : tie.Need-returns-3
-unfolding locatedInFrame
+unfolding locateInFrame
 returns-3 c =
     simp
     (arm (c .before .before .before .before .pre) (c .before .before .before .layout .ensures) (c .before .enum-told3 .given .1), c .bit-word-at2 .ensures)
 
 -- src/distributor.rt:174:1
 returns-4 : tie.Need-returns-4
-unfolding locatedInFrame
+unfolding locateInFrame
 returns-4 c =
     simp
     (arm (c .before .before .before .before .pre) (c .before .before .before .layout .ensures) (c .before .enum-told4 .given .1), c .byte-array-at .ensures)
 
 -- src/distributor.rt:174:1
 returns-5 : tie.Need-returns-5
-unfolding locatedInFrame
+unfolding locateInFrame
 returns-5 c =
     simp
     (arm (c .before .before .before .before .pre) (c .before .before .before .layout .ensures) (c .before .enum-told5 .given .1), c .byte-array-at2 .ensures)
 
 -- src/distributor.rt:174:1
 returns-6 : tie.Need-returns-6
-unfolding locatedInFrame
+unfolding locateInFrame
 returns-6 c = simp (arm (c .before .before .before .pre) (c .before .before .layout .ensures) (c .enum-told6 .given .1))
 
 pub locate-in-frame-spec : {M : Type 1} → statement M
