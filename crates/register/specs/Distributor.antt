@@ -65,9 +65,13 @@ isPrivate offset = isBanked (layoutOf (classAt offset)) && ltb (firstNumber offs
 unfoldable pub placeAt : ℕ → Place
 placeAt offset = record { class = classAt offset; first = record { 0 = firstNumber offset }; private = isPrivate offset }
 
+-- a place without numbers
+abbrev pub plain : Class → Place
+plain class = record { class = class; first = record { 0 = 0 }; private = false }
+
 -- "Every other place .. reads 0 and ignores writes at any width"
-abbrev pub elsewhere : Place
-elsewhere = record { class = Other; first = record { 0 = 0 }; private = false }
+abbrev pub elsewhere : DistributorAccess
+elsewhere = At (plain Other)
 
 -- what `locate_distributor` hands down: an offset in the frame, and its class
 pub record Found (class : Class) (offset : ℕ) : Type 0 where
@@ -83,7 +87,7 @@ wordStart offset = eqb (offset % 4) 0
 
 -- "4 bytes only"; "a start inside CTLR, TYPER, IIDR or SGIR (not at its first byte)" is another place
 unfoldable pub single : ℕ → AccessWidth → DistributorAccess
-single offset width = cond (wordStart offset) (cond (isDword width) (At (placeAt offset)) (Refused Width)) (At elsewhere)
+single offset width = cond (wordStart offset) (cond (isDword width) (At (plain (classAt offset))) (Refused Width)) elsewhere
 
 -- "4 bytes only, aligned; a narrower access that starts inside one of their words, past its first byte, is refused by 2 without a vCPU
 -- lookup"
@@ -100,7 +104,7 @@ within Bits offset width = bitWord offset width
 within BitPairs offset width = bitWord offset width
 within Priorities offset width = byteArray offset width
 within Bytes offset width = byteArray offset width
-within Nothing offset width = At elsewhere
+within Nothing offset width = elsewhere
 
 unfoldable pub locateInFrame : ℕ → AccessWidth → DistributorAccess
 locateInFrame offset width = within (layoutOf (classAt offset)) offset width

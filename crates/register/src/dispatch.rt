@@ -1062,9 +1062,13 @@ fn class_number(place: usize) -> u8
     CLASS_NUMBERS[place]
 }
 
+// An index into the table has it built on the stack; SGIR, on which guests ring, is told without.
 pub fn class_at(offset: u64) -> Class
     ensures { λ r. ⌜ r ≡ classAt offset ⌝ }
 {
+    if offset == 0xf00 {
+        return Class::Sgir;
+    }
     if offset < 0x1000 {
         Class::of_number(class_number((offset / 4) as usize))
     } else {

@@ -1,6 +1,6 @@
 // Where an access to the Distributor falls.
 ghost use mathlib.Core.Path.{_≡_};
-ghost use Rattle.register.specs.Distributor.{layoutOf, numbersPerByte, isBanked, Found, placeAt, unfit, single, bitWord, byteArray, locateInFrame, locateDistributor};
+ghost use Rattle.register.specs.Distributor.{layoutOf, numbersPerByte, isBanked, Found, placeAt, plain, unfit, single, bitWord, byteArray, locateInFrame, locateDistributor};
 use crate::dispatch::class_at;
 use crate::frame::AccessWidth;
 use crate::frame::Refusal;
@@ -41,12 +41,16 @@ pub enum DistributorAccess {
 }
 
 impl Place {
-    // A place without a register.
-    pub const ELSEWHERE: Self = Self {
-        class: Class::Other,
-        first: IntId(0),
-        private: false,
-    };
+    // A place without numbers.
+    fn plain(class: Class) -> Self
+        ensures { λ r. ⌜ r ≡ plain class ⌝ }
+    {
+        Self {
+            class,
+            first: IntId(0),
+            private: false,
+        }
+    }
 }
 
 impl Class {
@@ -136,10 +140,10 @@ fn single_at(class: Class, offset: u64, width: AccessWidth) -> DistributorAccess
     ensures { λ r. ⌜ r ≡ single offset width ⌝ }
 {
     if offset % 4 != 0 {
-        return DistributorAccess::At(Place::ELSEWHERE);
+        return DistributorAccess::At(Place::plain(Class::Other));
     }
     if width.is_dword() {
-        DistributorAccess::At(place_at(class, offset))
+        DistributorAccess::At(Place::plain(class))
     } else {
         DistributorAccess::Refused(Refusal::Width)
     }
@@ -181,7 +185,7 @@ fn locate_in_frame(class: Class, offset: u64, width: AccessWidth) -> Distributor
         Layout::BitPairs => bit_word_at(class, offset, width),
         Layout::Priorities => byte_array_at(class, offset, width),
         Layout::Bytes => byte_array_at(class, offset, width),
-        Layout::Nothing => DistributorAccess::At(Place::ELSEWHERE),
+        Layout::Nothing => DistributorAccess::At(Place::plain(Class::Other)),
     }
 }
 
