@@ -1,6 +1,6 @@
 -- What an access that lies in its frame is known to do. Assumes nothing.
 use mathlib.Core.Path.{_≡_, subst, sym}
-use mathlib.Core.Bool.{Bool, true, _&&_}
+use mathlib.Core.Bool.{Bool, true, false, _&&_, false≢true}
 use Prim.Native.Nat.{ℕ, _+_, _≤_, _<_}
 use native.Mathlib.Omega.{arith}
 use lib.Dec.{T, leb, leb→le}
@@ -25,3 +25,10 @@ in-frame-below size offset width e =
     let ends : offset + bytes width ≤ size = in-frame-ends size offset width e in
     let some : 1 ≤ bytes width = some-bytes width in
     omega arith
+
+pub in-frame-aligned : (size offset : ℕ) (width : AccessWidth) → inFrame size offset width ≡ true → aligned offset width ≡ true
+in-frame-aligned size offset width e = go (leb (offset + bytes width) size) e
+  where
+    go : (b : Bool) → (b && aligned offset width) ≡ true → aligned offset width ≡ true
+    go true f = f
+    go false f = absurd (false≢true f)

@@ -1,4 +1,6 @@
 -- Laws that belong to no one function.
 pub mod Access
+pub mod Corners
 pub mod Map
+pub mod Reach
 pub mod Table

@@ -3,6 +3,7 @@
 use mathlib.Core.Path.{_≡_, refl, ap, _∙_}
 use mathlib.Core.Bool.{Bool, true, false, cond, _&&_, and-false}
 use mathlib.Core.List.{List, [], _∷_}
+use mathlib.Core.Logic.{_⊎_, inl, inr}
 use Prim.Native.Nat.{ℕ, zero, suc, _+_, _*_, _/_, _%_, _≤_, _<_}
 use native.Mathlib.Nat.{zero-add, le-of-suc-le-suc, not-suc-le-zero}
 use native.Mathlib.Omega.{arith}
@@ -179,6 +180,35 @@ range-of-class o =
     by-range (λ r. rangeOf (r .class) ≡ r) o ranges
     ((λ t. refl) & (λ t. refl) & (λ t. refl) & (λ t. refl) & (λ t. refl) & (λ t. refl) & (λ t. refl) & (λ t. refl) & (λ t. refl) & (λ t. refl) & (λ t. refl) & (λ t. refl) & (λ t. refl) & (λ t. refl) & (λ t. refl) & (λ t. refl) & tt)
     refl
+
+-- where a register lies, the range is of whole words around the offset
+pub record Whole (r : RegisterRange) (o : ℕ) : Type 0 where
+  pub starts : r .first ≤ o
+  pub below : o < r .first + r .length
+  pub first-word : r .first % 4 ≡ 0
+  pub length-word : r .length % 4 ≡ 0
+
+whole-in : (rs : List RegisterRange) (i o : ℕ) → T (every inWords i rs) → Each (λ r. T (holds r o) → Whole r o) rs
+unfolding inWords
+whole-in [] i o t = tt
+whole-in (r ∷ rs) i o t =
+    let w : T (inWords i r) = both-left (inWords i r) (every inWords (suc i) rs) t in (
+      λ h. record {
+        starts = leb→le (r .first) o (both-left (leb (r .first) o) (ltb o (r .first + r .length)) h);
+        below = ltb→lt o (r .first + r .length) (both-right (leb (r .first) o) (ltb o (r .first + r .length)) h);
+        first-word = eqb→eq (r .first % 4) 0 (both-left (eqb (r .first % 4) 0) (eqb (r .length % 4) 0) w);
+        length-word = eqb→eq (r .length % 4) 0 (both-right (eqb (r .first % 4) 0) (eqb (r .length % 4) 0) w);
+      },
+      whole-in rs (suc i) o (both-right (inWords i r) (every inWords (suc i) rs) t),
+    )
+
+pub range-whole : (o : ℕ) → (rangeAt o ≡ nowhere) ⊎ Whole (rangeAt o) o
+unfolding rangeAt ranges inWords
+range-whole o = by-range (λ r. (r ≡ nowhere) ⊎ Whole r o) o ranges (held ranges (whole-in ranges 0 o tt)) (inl refl)
+  where
+    held : (rs : List RegisterRange) → Each (λ r. T (holds r o) → Whole r o) rs → Each (λ r. T (holds r o) → (r ≡ nowhere) ⊎ Whole r o) rs
+    held [] rows = tt
+    held (r ∷ rs) rows = (λ h. inr (rows .0 h), held rs (rows .1))
 
 -- the class number of each 32-bit place, computed: what the dispatch table has to be
 unfoldable pub classNumbers : List ℕ

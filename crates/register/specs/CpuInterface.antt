@@ -10,7 +10,7 @@ use Rattle.register.specs.declared.«cpu_interface».CpuInterfaceRegiste
 use Rattle.register.specs.declared.«cpu_interface».CpuInterfaceRegister.the-variants.{Ctlr, Pmr, Bpr, Iar, Eoir, Rpr, Hppir, Abpr, Aiar, Aeoir, Ahppir, Apr, Iidr, Dir, Other}
 use Rattle.register.specs.declared.«cpu_interface».CpuInterfaceAccess.{CpuInterfaceAccess}
 use Rattle.register.specs.declared.«cpu_interface».CpuInterfaceAccess.the-variants.{Refused, At}
-use Rattle.register.specs.Frame.{isDword, inFrame}
+use Rattle.register.specs.Frame.{isDword, refusalNumber, inFrame}
 
 pub record Row : Type 0 where
   pub offset : ℕ
@@ -47,3 +47,8 @@ registerAt offset = registerIn registers offset
 -- "Every access is 4 bytes"; 1 comes before 2
 unfoldable pub locateCpuInterface : ℕ → AccessWidth → CpuInterfaceAccess
 locateCpuInterface offset width = cond (inFrame 0x2000 offset width) (cond (isDword width) (At (registerAt offset)) (Refused Width)) (Refused Access)
+
+-- the refusal that an access meets by itself, 0 for none; a vCPU is looked up later
+unfoldable pub interfaceRefusal : CpuInterfaceAccess → ℕ
+interfaceRefusal (Refused r) = refusalNumber r
+interfaceRefusal (At register) = 0

@@ -1,12 +1,12 @@
 -- Where an access to the Distributor falls: document 01, "Distributor places" and "Refusal numbers"; the registers are those of IHI 0048,
 -- section 4.3. What a place then reads or does, and the lookup of the vCPU, are not said here.
-use mathlib.Core.Bool.{Bool, true, false, cond, _&&_}
+use mathlib.Core.Bool.{Bool, true, false, cond, not, _&&_}
 use mathlib.Core.Path.{_≡_}
 use Prim.Native.Nat.{ℕ, _-_, _*_, _%_, _<_}
 use lib.Dec.{eqb, ltb}
 use Rattle.interrupt.specs.declared.types.IntId.{IntId}
 use Rattle.register.specs.declared.frame.AccessWidth.{AccessWidth}
-use Rattle.register.specs.declared.frame.Refusal.the-variants.{Access, Width}
+use Rattle.register.specs.declared.frame.Refusal.the-variants.{Access, Width, Vcpu}
 use Rattle.register.specs.declared.ranges.Class.{Class}
 use Rattle.register.specs.declared.ranges.Class.the-variants.{Ctlr, Typer, Iidr, Igroupr, Isenabler, Icenabler, Ispendr, Icpendr, Isactiver, Icactiver, Ipriorityr, Itargetsr, Icfgr, Sgir, Cpendsgir, Spendsgir, Other}
 use Rattle.register.specs.declared.distributor.Layout.{Layout}
@@ -14,7 +14,7 @@ use Rattle.register.specs.declared.distributor.Layout.the-variants.{Sing
 use Rattle.register.specs.declared.distributor.Place.{Place}
 use Rattle.register.specs.declared.distributor.DistributorAccess.{DistributorAccess}
 use Rattle.register.specs.declared.distributor.DistributorAccess.the-variants.{Refused, PrivateWidth, At}
-use Rattle.register.specs.Frame.{isDword, isQword, inFrame}
+use Rattle.register.specs.Frame.{isDword, isQword, refusalNumber, inFrame}
 use Rattle.register.specs.Ranges.{rangeAt, classAt}
 
 -- "From 0x080 .. ICACTIVER", a bit for each interrupt; "ICFGR .. has two bits per interrupt"; the rest by their names
@@ -112,3 +112,10 @@ locateInFrame offset width = within (layoutOf (classAt offset)) offset width
 -- an access, by its offset and width alone: "1, then 2", in a frame of 0x1000 bytes
 unfoldable pub locateDistributor : ℕ → AccessWidth → DistributorAccess
 locateDistributor offset width = cond (inFrame 0x1000 offset width) (locateInFrame offset width) (Refused Access)
+
+-- the refusal that an access meets by itself, 0 for none: at a private register the vCPU is looked up, and `exists` says whether it is
+-- there. Other places that look up their vCPU do so later.
+unfoldable pub distributorRefusal : Bool → DistributorAccess → ℕ
+distributorRefusal exists (Refused r) = refusalNumber r
+distributorRefusal exists PrivateWidth = cond exists (refusalNumber Width) (refusalNumber Vcpu)
+distributorRefusal exists (At place) = cond (not exists && place .private) (refusalNumber Vcpu) 0
