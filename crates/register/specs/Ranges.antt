@@ -1,7 +1,6 @@
 -- The Distributor's register map: IHI 0048, Table 4-1, "Distributor register map", as document 01 has it under "Distributor places".
--- Document 01 departs from the table in nothing but the ends: the byte arrays IPRIORITYR and ITARGETSR are 1,020 bytes long, a byte for
--- each number below 1020, so that 0x7FC and 0xBFC are other places. NSACR, the identification registers and what IHI leaves to the
--- implementer are no registers here: "Every other place .. reads 0 and ignores writes".
+-- IPRIORITYR and ITARGETSR have a byte for each number below 1020, so that 0x7FC and 0xBFC belong to no register. Left out on purpose:
+-- NSACR, the identification registers and what IHI leaves to the implementer, which document 01 takes for other places.
 use mathlib.Core.Bool.{Bool, true, false, cond, _&&_}
 use mathlib.Core.List.{List, [], _∷_}
 use Prim.Native.Nat.{ℕ, _+_}
@@ -45,7 +44,7 @@ unfoldable pub rangeIn : List RegisterRange → ℕ → RegisterRange
 rangeIn [] offset = nowhere
 rangeIn (r ∷ rs) offset = cond (holds r offset) r (rangeIn rs offset)
 
--- the range that holds an offset, and its class; `ranges-apart` shows that no second range holds it
+-- the range that holds an offset, and its class; no second range does (`ranges-apart` in proofs/Map.antt)
 unfoldable pub rangeAt : ℕ → RegisterRange
 rangeAt offset = rangeIn ranges offset
 

@@ -10,15 +10,23 @@ pub enum AccessWidth {
     Qword,
 }
 
-// Why a call is refused.
+// Why a call is refused, in the order of the refusals' numbers.
 pub enum Refusal {
+    // Unaligned, or the end overflows or passes the frame.
     Access,
+    // The register does not take this width.
     Width,
+    // There is no such vCPU.
     Vcpu,
+    // Setup: count or limit out of range.
     Limits,
+    // Setup: the lent state is too short.
     ShortState,
+    // The lent state is no controller's.
     BrokenState,
+    // No room for an acknowledged interrupt.
     FullStack,
+    // Device input: no number for a device.
     Input,
 }
 

@@ -10,6 +10,7 @@ pub use cpu_interface::CpuInterfaceAccess;
 pub use cpu_interface::CpuInterfaceRegister;
 pub use cpu_interface::locate_cpu_interface;
 pub use distributor::DistributorAccess;
+pub use distributor::Layout;
 pub use distributor::Place;
 pub use distributor::locate_distributor;
 pub use frame::AccessWidth;

@@ -1,0 +1,32 @@
+//! The register offsets of document 01, which v2.rs imports.
+pub const GICD_CTLR: u64 = 0x000;
+pub const GICD_TYPER: u64 = 0x004;
+pub const GICD_IIDR: u64 = 0x008;
+pub const GICD_IGROUPR: u64 = 0x080;
+pub const GICD_ISENABLER: u64 = 0x100;
+pub const GICD_ICENABLER: u64 = 0x180;
+pub const GICD_ISPENDR: u64 = 0x200;
+pub const GICD_ICPENDR: u64 = 0x280;
+pub const GICD_ISACTIVER: u64 = 0x300;
+pub const GICD_ICACTIVER: u64 = 0x380;
+pub const GICD_IPRIORITYR: u64 = 0x400;
+pub const GICD_ITARGETSR: u64 = 0x800;
+pub const GICD_ICFGR: u64 = 0xc00;
+pub const GICD_SGIR: u64 = 0xf00;
+pub const GICD_CPENDSGIR: u64 = 0xf10;
+pub const GICD_SPENDSGIR: u64 = 0xf20;
+
+pub const GICC_CTLR: u64 = 0x00;
+pub const GICC_PMR: u64 = 0x04;
+pub const GICC_BPR: u64 = 0x08;
+pub const GICC_IAR: u64 = 0x0c;
+pub const GICC_EOIR: u64 = 0x10;
+pub const GICC_RPR: u64 = 0x14;
+pub const GICC_HPPIR: u64 = 0x18;
+pub const GICC_ABPR: u64 = 0x1c;
+pub const GICC_AIAR: u64 = 0x20;
+pub const GICC_AEOIR: u64 = 0x24;
+pub const GICC_AHPPIR: u64 = 0x28;
+pub const GICC_APR: u64 = 0xd0;
+pub const GICC_IIDR: u64 = 0xfc;
+pub const GICC_DIR: u64 = 0x1000;
