@@ -4,15 +4,20 @@ use mathlib.Core.Path.{_≡_, refl, ap, _∙_}
 use mathlib.Core.Bool.{Bool, true, false, cond, _&&_, and-false}
 use mathlib.Core.List.{List, [], _∷_}
 use mathlib.Core.Logic.{_⊎_, inl, inr}
-use Prim.Native.Nat.{ℕ, zero, suc, _+_, _*_, _/_, _%_, _≤_, _<_}
+use Prim.Native.Nat.{ℕ, zero, suc, suc-le-suc, _+_, _*_, _/_, _%_, _≤_, _<_}
 use native.Mathlib.Nat.{zero-add, le-of-suc-le-suc, not-suc-le-zero}
 use native.Mathlib.Omega.{arith}
 use lib.Dec.{T, leb, ltb, eqb, leb→le, ltb→lt, eqb→eq}
 use lib.ListN.{length, getD, List·getD-eq-default}
 use borrow.Author.Tests.{leb-true, leb-false, le-leb, lt-leb, ltb-true, ltb-false, lt-ltb, le-ltb}
+use Rattle.register.specs.declared.ranges.BitRegister.{BitRegister}
+use Rattle.register.specs.declared.ranges.BitRegister.the-variants.{Igroupr, Isenabler, Icenabler, Ispendr, Icpendr, Isactiver, Icactiver, Icfgr}
+use Rattle.register.specs.declared.ranges.ByteRegister.{ByteRegister}
+use Rattle.register.specs.declared.ranges.ByteRegister.the-variants.{Ipriorityr, Itargetsr, Cpendsgir, Spendsgir}
 use Rattle.register.specs.declared.ranges.Class.{Class}
-use Rattle.register.specs.declared.ranges.Class.the-variants.{Ctlr, Typer, Iidr, Igroupr, Isenabler, Icenabler, Ispendr, Icpendr, Isactiver, Icactiver, Ipriorityr, Itargetsr, Icfgr, Sgir, Cpendsgir, Spendsgir, Other}
+use Rattle.register.specs.declared.ranges.Class.the-variants.{Ctlr, Typer, Iidr, Sgir, Bits, Bytes, Other}
 use Rattle.register.specs.declared.ranges.RegisterRange.{RegisterRange}
+use Rattle.register.specs.Distributor.{bitNumbersPerByte, numbersPerByte}
 use Rattle.register.specs.Ranges.{ranges, nowhere, holds, rangeIn, rangeAt, classAt, numberOf, rangeNumbered, classOf, rangeOf}
 use Rattle.register.proofs.Table.{both-left, both-right, every, at, tabulate, getD-tabulate}
 
@@ -27,19 +32,19 @@ unfolding classOf rangeNumbered ranges
 class-of-number Ctlr = refl
 class-of-number Typer = refl
 class-of-number Iidr = refl
-class-of-number Igroupr = refl
-class-of-number Isenabler = refl
-class-of-number Icenabler = refl
-class-of-number Ispendr = refl
-class-of-number Icpendr = refl
-class-of-number Isactiver = refl
-class-of-number Icactiver = refl
-class-of-number Ipriorityr = refl
-class-of-number Itargetsr = refl
-class-of-number Icfgr = refl
+class-of-number (Bits Igroupr) = refl
+class-of-number (Bits Isenabler) = refl
+class-of-number (Bits Icenabler) = refl
+class-of-number (Bits Ispendr) = refl
+class-of-number (Bits Icpendr) = refl
+class-of-number (Bits Isactiver) = refl
+class-of-number (Bits Icactiver) = refl
+class-of-number (Bytes Ipriorityr) = refl
+class-of-number (Bytes Itargetsr) = refl
+class-of-number (Bits Icfgr) = refl
 class-of-number Sgir = refl
-class-of-number Cpendsgir = refl
-class-of-number Spendsgir = refl
+class-of-number (Bytes Cpendsgir) = refl
+class-of-number (Bytes Spendsgir) = refl
 class-of-number Other = refl
 
 -- .. and a number is the number of its class, row by row
@@ -96,24 +101,14 @@ pub range-at-word : (o : ℕ) → rangeAt (4 * (o / 4)) ≡ rangeAt o
 unfolding rangeAt ranges inWords
 range-at-word o = word-in ranges 0 o tt
 
+starts : (r : RegisterRange) (o : ℕ) → T (holds r o) → r .first ≤ o
+starts r o t = leb→le (r .first) o (both-left (leb (r .first) o) (ltb o (r .first + r .length)) t)
+
+below : (r : RegisterRange) (o : ℕ) → T (holds r o) → o < r .first + r .length
+below r o t = ltb→lt o (r .first + r .length) (both-right (leb (r .first) o) (ltb o (r .first + r .length)) t)
+
 not-held : (r : RegisterRange) (o : ℕ) → r .first + r .length ≤ o → holds r o ≡ false
 not-held r o h = simp (le-ltb o (r .first + r .length) h, and-false (leb (r .first) o))
-
--- no range holds an offset past the frame
-inside : ℕ → RegisterRange → Bool
-inside i r = leb (r .first + r .length) 0x1000
-
-past-in : (rs : List RegisterRange) (i o : ℕ) → T (every inside i rs) → 0x1000 ≤ o → rangeIn rs o ≡ nowhere
-unfolding rangeIn inside
-past-in [] i o t h = refl
-past-in (r ∷ rs) i o t h =
-    let e : r .first + r .length ≤ 0x1000 = leb→le (r .first + r .length) 0x1000 (both-left (inside i r) (every inside (suc i) rs) t) in
-    let out : holds r o ≡ false = not-held r o (omega arith) in
-    simp (out, past-in rs (suc i) o (both-right (inside i r) (every inside (suc i) rs) t) h)
-
-pub range-past : (o : ℕ) → 0x1000 ≤ o → rangeAt o ≡ nowhere
-unfolding rangeAt ranges inside
-range-past o h = past-in ranges 0 o tt h
 
 -- ranges lie apart, each behind those before it: whichever row holds an offset is the range that holds it
 behind : RegisterRange → ℕ → RegisterRange → Bool
@@ -135,7 +130,7 @@ held-in (r ∷ rs) o t (suc n) h hit =
     let s = getD rs n nowhere in
     let k : n < length rs = le-of-suc-le-suc h in
     let far : r .first + r .length ≤ s .first = leb→le (r .first + r .length) (s .first) (at (behind r) rs (both-left (every (behind r) 0 rs) (apart rs) t) n nowhere k) in
-    let near : s .first ≤ o = leb→le (s .first) o (both-left (leb (s .first) o) (ltb o (s .first + s .length)) hit) in
+    let near : s .first ≤ o = starts s o hit in
     let out : holds r o ≡ false = not-held r o (omega arith) in
     simp (out, held-in rs o (both-right (every (behind r) 0 rs) (apart rs) t) n k hit)
 
@@ -144,71 +139,69 @@ unfolding rangeAt rangeNumbered ranges apart behind
 ranges-apart n o h hit = held-in ranges o tt n h hit
 
 -- what holds of each row that holds the offset, and of none, holds of the range at the offset
-abbrev Each : (RegisterRange → Type 0) → List RegisterRange → Type 0
-Each P [] = Unit
-Each P (r ∷ rs) = P r × Each P rs
-
-infixr 20 _&_
-_&_ : {A B : Type 0} → A → B → A × B
-a & b = (a, b)
-
-each : {P : RegisterRange → Type 0} → ((r : RegisterRange) → P r) → (rs : List RegisterRange) → Each P rs
-each p [] = tt
-each p (r ∷ rs) = (p r, each p rs)
-
-by-range : (P : RegisterRange → Type 0) (o : ℕ) (rs : List RegisterRange) → Each (λ r. T (holds r o) → P r) rs → P nowhere → P (rangeIn rs o)
+by-range : (P : RegisterRange → Type 0) (o : ℕ) (rs : List RegisterRange) → ((n : ℕ) → n < length rs → T (holds (getD rs n nowhere) o) → P (getD rs n nowhere)) → P nowhere → P (rangeIn rs o)
 unfolding rangeIn
 by-range P o [] rows none = none
-by-range P o (r ∷ rs) rows none = go (holds r o) (rows .0) (by-range P o rs (rows .1) none)
+by-range P o (r ∷ rs) rows none = go (holds r o) (rows 0 (omega arith)) (by-range P o rs (λ n h. rows (suc n) (suc-le-suc h)) none)
   where
     go : (b : Bool) → (T b → P r) → P (rangeIn rs o) → P (cond b r (rangeIn rs o))
     go true p q = p tt
     go false p q = q
 
+by-row : (P : RegisterRange → Type 0) (o : ℕ) → ((n : ℕ) → n < 16 → T (holds (rangeNumbered n) o) → P (rangeNumbered n)) → P nowhere → P (rangeAt o)
+unfolding rangeAt rangeNumbered ranges
+by-row P o rows none = by-range P o ranges rows none
+
+-- no range holds an offset past the frame
+inside : ℕ → RegisterRange → Bool
+inside i r = leb (r .first + r .length) 0x1000
+
+rows-inside : (n : ℕ) → n < 16 → rangeNumbered n .first + rangeNumbered n .length ≤ 0x1000
+unfolding inside rangeNumbered ranges
+rows-inside n h = leb→le (rangeNumbered n .first + rangeNumbered n .length) 0x1000 (at inside ranges tt n nowhere h)
+
+pub range-past : (o : ℕ) → 0x1000 ≤ o → rangeAt o ≡ nowhere
+range-past o h = by-row (λ r. r ≡ nowhere) o past refl
+  where
+    past : (n : ℕ) → n < 16 → T (holds (rangeNumbered n) o) → rangeNumbered n ≡ nowhere
+    past n l t =
+        let ends : rangeNumbered n .first + rangeNumbered n .length ≤ 0x1000 = rows-inside n l in
+        let in-it : o < rangeNumbered n .first + rangeNumbered n .length = below (rangeNumbered n) o t in
+        let no : ⊥ = omega arith in
+        absurd no
+
 -- the range that holds an offset starts at or before it ..
 pub range-starts : (o : ℕ) → rangeAt o .first ≤ o
-unfolding rangeAt
-range-starts o = by-range (λ r. r .first ≤ o) o ranges (each starts ranges) (omega arith)
-  where
-    starts : (r : RegisterRange) → T (holds r o) → r .first ≤ o
-    starts r t = leb→le (r .first) o (both-left (leb (r .first) o) (ltb o (r .first + r .length)) t)
+range-starts o = by-row (λ r. r .first ≤ o) o (λ n h t. starts (rangeNumbered n) o t) (omega arith)
 
 -- .. and is the range of its class
 pub range-of-class : (o : ℕ) → rangeOf (classAt o) ≡ rangeAt o
-unfolding rangeAt rangeOf rangeNumbered ranges
-range-of-class o =
-    by-range (λ r. rangeOf (r .class) ≡ r) o ranges
-    ((λ t. refl) & (λ t. refl) & (λ t. refl) & (λ t. refl) & (λ t. refl) & (λ t. refl) & (λ t. refl) & (λ t. refl) & (λ t. refl) & (λ t. refl) & (λ t. refl) & (λ t. refl) & (λ t. refl) & (λ t. refl) & (λ t. refl) & (λ t. refl) & tt)
-    refl
+unfolding rangeOf rangeNumbered classOf
+range-of-class o = by-row (λ r. rangeOf (r .class) ≡ r) o (λ n h t. ap rangeNumbered (numbered-row n h)) (numbered-past 16 (omega arith))
 
 -- where a register lies, the range is of whole words around the offset
 pub record Whole (r : RegisterRange) (o : ℕ) : Type 0 where
-  pub starts : r .first ≤ o
-  pub below : o < r .first + r .length
+  pub starts-before : r .first ≤ o
+  pub ends-behind : o < r .first + r .length
   pub first-word : r .first % 4 ≡ 0
   pub length-word : r .length % 4 ≡ 0
 
-whole-in : (rs : List RegisterRange) (i o : ℕ) → T (every inWords i rs) → Each (λ r. T (holds r o) → Whole r o) rs
+whole : (r : RegisterRange) (i o : ℕ) → T (inWords i r) → T (holds r o) → Whole r o
 unfolding inWords
-whole-in [] i o t = tt
-whole-in (r ∷ rs) i o t =
-    let w : T (inWords i r) = both-left (inWords i r) (every inWords (suc i) rs) t in (
-      λ h. record {
-        starts = leb→le (r .first) o (both-left (leb (r .first) o) (ltb o (r .first + r .length)) h);
-        below = ltb→lt o (r .first + r .length) (both-right (leb (r .first) o) (ltb o (r .first + r .length)) h);
-        first-word = eqb→eq (r .first % 4) 0 (both-left (eqb (r .first % 4) 0) (eqb (r .length % 4) 0) w);
-        length-word = eqb→eq (r .length % 4) 0 (both-right (eqb (r .first % 4) 0) (eqb (r .length % 4) 0) w);
-      },
-      whole-in rs (suc i) o (both-right (inWords i r) (every inWords (suc i) rs) t),
-    )
+whole r i o w t =
+    record {
+      starts-before = starts r o t;
+      ends-behind = below r o t;
+      first-word = eqb→eq (r .first % 4) 0 (both-left (eqb (r .first % 4) 0) (eqb (r .length % 4) 0) w);
+      length-word = eqb→eq (r .length % 4) 0 (both-right (eqb (r .first % 4) 0) (eqb (r .length % 4) 0) w);
+    }
+
+rows-in-words : (n : ℕ) → n < 16 → T (inWords n (rangeNumbered n))
+unfolding inWords rangeNumbered ranges
+rows-in-words n h = at inWords ranges tt n nowhere h
 
 pub range-whole : (o : ℕ) → (rangeAt o ≡ nowhere) ⊎ Whole (rangeAt o) o
-unfolding rangeAt ranges inWords
-range-whole o = by-range (λ r. (r ≡ nowhere) ⊎ Whole r o) o ranges (held ranges (whole-in ranges 0 o tt)) (inl refl)
-  where
-    held : (rs : List RegisterRange) → Each (λ r. T (holds r o) → Whole r o) rs → Each (λ r. T (holds r o) → (r ≡ nowhere) ⊎ Whole r o) rs
-    held [] rows = tt
-    held (r ∷ rs) rows = (λ h. inr (rows .0 h), held rs (rows .1))
+range-whole o = by-row (λ r. (r ≡ nowhere) ⊎ Whole r o) o (λ n h t. inr (whole (rangeNumbered n) n o (rows-in-words n h) t)) (inl refl)
 
 -- the class number of each 32-bit place, computed: what the dispatch table has to be
 unfoldable pub classNumbers : List ℕ
@@ -220,3 +213,23 @@ class-numbers k h = getD-tabulate number 0 1024 k 0 h ∙ ap number (zero-add k)
   where
     number : ℕ → ℕ
     number n = numberOf (classAt (4 * n))
+
+-- a byte belongs to 8 interrupts at most
+few-in-bits : (r : BitRegister) → bitNumbersPerByte r ≤ 8
+few-in-bits Igroupr = omega arith
+few-in-bits Isenabler = omega arith
+few-in-bits Icenabler = omega arith
+few-in-bits Ispendr = omega arith
+few-in-bits Icpendr = omega arith
+few-in-bits Isactiver = omega arith
+few-in-bits Icactiver = omega arith
+few-in-bits Icfgr = omega arith
+
+pub few-numbers : (c : Class) → numbersPerByte c ≤ 8
+few-numbers Ctlr = omega arith
+few-numbers Typer = omega arith
+few-numbers Iidr = omega arith
+few-numbers Sgir = omega arith
+few-numbers (Bits register) = few-in-bits register
+few-numbers (Bytes register) = omega arith
+few-numbers Other = omega arith

@@ -7,60 +7,62 @@ use lib.Dec.{eqb, ltb}
 use Rattle.interrupt.specs.declared.types.IntId.{IntId}
 use Rattle.register.specs.declared.frame.AccessWidth.{AccessWidth}
 use Rattle.register.specs.declared.frame.Refusal.the-variants.{Access, Width, Vcpu}
+use Rattle.register.specs.declared.ranges.BitRegister.{BitRegister}
+use Rattle.register.specs.declared.ranges.BitRegister.the-variants.{Igroupr, Isenabler, Icenabler, Ispendr, Icpendr, Isactiver, Icactiver, Icfgr}
+use Rattle.register.specs.declared.ranges.ByteRegister.{ByteRegister}
+use Rattle.register.specs.declared.ranges.ByteRegister.the-variants.{Ipriorityr, Itargetsr, Cpendsgir, Spendsgir}
 use Rattle.register.specs.declared.ranges.Class.{Class}
-use Rattle.register.specs.declared.ranges.Class.the-variants.{Ctlr, Typer, Iidr, Igroupr, Isenabler, Icenabler, Ispendr, Icpendr, Isactiver, Icactiver, Ipriorityr, Itargetsr, Icfgr, Sgir, Cpendsgir, Spendsgir, Other}
-use Rattle.register.specs.declared.distributor.Layout.{Layout}
-use Rattle.register.specs.declared.distributor.Layout.the-variants.{Single, Bits, BitPairs, Priorities, Bytes, Nothing}
+use Rattle.register.specs.declared.ranges.Class.the-variants.{Ctlr, Typer, Iidr, Sgir, Bits, Bytes, Other}
 use Rattle.register.specs.declared.distributor.Place.{Place}
 use Rattle.register.specs.declared.distributor.DistributorAccess.{DistributorAccess}
 use Rattle.register.specs.declared.distributor.DistributorAccess.the-variants.{Refused, PrivateWidth, At}
 use Rattle.register.specs.Frame.{isDword, isQword, refusalNumber, inFrame}
 use Rattle.register.specs.Ranges.{rangeAt, classAt}
 
--- "From 0x080 .. ICACTIVER", a bit for each interrupt; "ICFGR .. has two bits per interrupt"; the rest by their names
-abbrev pub layoutOf : Class → Layout
-layoutOf Ctlr = Single
-layoutOf Typer = Single
-layoutOf Iidr = Single
-layoutOf Igroupr = Bits
-layoutOf Isenabler = Bits
-layoutOf Icenabler = Bits
-layoutOf Ispendr = Bits
-layoutOf Icpendr = Bits
-layoutOf Isactiver = Bits
-layoutOf Icactiver = Bits
-layoutOf Ipriorityr = Priorities
-layoutOf Itargetsr = Bytes
-layoutOf Icfgr = BitPairs
-layoutOf Sgir = Single
-layoutOf Cpendsgir = Bytes
-layoutOf Spendsgir = Bytes
-layoutOf Other = Nothing
+-- how many interrupts a byte of the registers belongs to: "ICFGR .. has two bits per interrupt", the other bit ranges one, IPRIORITYR,
+-- ITARGETSR and the registers of SGI sources have a byte for each
+abbrev pub bitNumbersPerByte : BitRegister → ℕ
+bitNumbersPerByte Igroupr = 8
+bitNumbersPerByte Isenabler = 8
+bitNumbersPerByte Icenabler = 8
+bitNumbersPerByte Ispendr = 8
+bitNumbersPerByte Icpendr = 8
+bitNumbersPerByte Isactiver = 8
+bitNumbersPerByte Icactiver = 8
+bitNumbersPerByte Icfgr = 4
 
-abbrev pub numbersPerByte : Layout → ℕ
-numbersPerByte Single = 0
-numbersPerByte Bits = 8
-numbersPerByte BitPairs = 4
-numbersPerByte Priorities = 1
-numbersPerByte Bytes = 1
-numbersPerByte Nothing = 0
+abbrev pub numbersPerByte : Class → ℕ
+numbersPerByte Ctlr = 0
+numbersPerByte Typer = 0
+numbersPerByte Iidr = 0
+numbersPerByte Sgir = 0
+numbersPerByte (Bits register) = bitNumbersPerByte register
+numbersPerByte (Bytes register) = 1
+numbersPerByte Other = 0
 
 -- the number of the first interrupt at an offset, counted from the start of the range that holds it
 unfoldable pub firstNumber : ℕ → ℕ
-firstNumber offset = (offset - rangeAt offset .first) * numbersPerByte (layoutOf (classAt offset))
+firstNumber offset = (offset - rangeAt offset .first) * numbersPerByte (classAt offset)
 
 -- "Private registers are the first of each bit range, ICFGR's first two and priority bytes 0 to 31": of these each vCPU has its own
 -- for the numbers below 32
-abbrev pub isBanked : Layout → Bool
-isBanked Single = false
-isBanked Bits = true
-isBanked BitPairs = true
-isBanked Priorities = true
-isBanked Bytes = false
-isBanked Nothing = false
+abbrev pub isPriority : ByteRegister → Bool
+isPriority Ipriorityr = true
+isPriority Itargetsr = false
+isPriority Cpendsgir = false
+isPriority Spendsgir = false
+
+abbrev pub isBanked : Class → Bool
+isBanked Ctlr = false
+isBanked Typer = false
+isBanked Iidr = false
+isBanked Sgir = false
+isBanked (Bits register) = true
+isBanked (Bytes register) = isPriority register
+isBanked Other = false
 
 unfoldable pub isPrivate : ℕ → Bool
-isPrivate offset = isBanked (layoutOf (classAt offset)) && ltb (firstNumber offset) 32
+isPrivate offset = isBanked (classAt offset) && ltb (firstNumber offset) 32
 
 unfoldable pub placeAt : ℕ → Place
 placeAt offset = record { class = classAt offset; first = record { 0 = firstNumber offset }; private = isPrivate offset }
@@ -98,16 +100,17 @@ bitWord offset width = cond (wordStart offset) (cond (isDword width) (At (placeA
 unfoldable pub byteArray : ℕ → AccessWidth → DistributorAccess
 byteArray offset width = cond (isQword width) (unfit offset) (At (placeAt offset))
 
-abbrev pub within : Layout → ℕ → AccessWidth → DistributorAccess
-within Single offset width = single offset width
-within Bits offset width = bitWord offset width
-within BitPairs offset width = bitWord offset width
-within Priorities offset width = byteArray offset width
-within Bytes offset width = byteArray offset width
-within Nothing offset width = elsewhere
+abbrev pub within : Class → ℕ → AccessWidth → DistributorAccess
+within Ctlr offset width = single offset width
+within Typer offset width = single offset width
+within Iidr offset width = single offset width
+within Sgir offset width = single offset width
+within (Bits register) offset width = bitWord offset width
+within (Bytes register) offset width = byteArray offset width
+within Other offset width = elsewhere
 
 unfoldable pub locateInFrame : ℕ → AccessWidth → DistributorAccess
-locateInFrame offset width = within (layoutOf (classAt offset)) offset width
+locateInFrame offset width = within (classAt offset) offset width
 
 -- an access, by its offset and width alone: "1, then 2", in a frame of 0x1000 bytes
 unfoldable pub locateDistributor : ℕ → AccessWidth → DistributorAccess

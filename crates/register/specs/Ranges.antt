@@ -6,8 +6,12 @@ use mathlib.Core.List.{List, [], _∷_}
 use Prim.Native.Nat.{ℕ, _+_}
 use lib.Dec.{leb, ltb}
 use lib.ListN.{getD}
+use Rattle.register.specs.declared.ranges.BitRegister.{BitRegister}
+use Rattle.register.specs.declared.ranges.BitRegister.the-variants.{Igroupr, Isenabler, Icenabler, Ispendr, Icpendr, Isactiver, Icactiver, Icfgr}
+use Rattle.register.specs.declared.ranges.ByteRegister.{ByteRegister}
+use Rattle.register.specs.declared.ranges.ByteRegister.the-variants.{Ipriorityr, Itargetsr, Cpendsgir, Spendsgir}
 use Rattle.register.specs.declared.ranges.Class.{Class}
-use Rattle.register.specs.declared.ranges.Class.the-variants.{Ctlr, Typer, Iidr, Igroupr, Isenabler, Icenabler, Ispendr, Icpendr, Isactiver, Icactiver, Ipriorityr, Itargetsr, Icfgr, Sgir, Cpendsgir, Spendsgir, Other}
+use Rattle.register.specs.declared.ranges.Class.the-variants.{Ctlr, Typer, Iidr, Sgir, Bits, Bytes, Other}
 use Rattle.register.specs.declared.ranges.RegisterRange.{RegisterRange}
 
 abbrev pub range : ℕ → ℕ → Class → RegisterRange
@@ -18,19 +22,19 @@ ranges =
     range 0x000 4 Ctlr
     ∷ range 0x004 4 Typer
     ∷ range 0x008 4 Iidr
-    ∷ range 0x080 0x80 Igroupr
-    ∷ range 0x100 0x80 Isenabler
-    ∷ range 0x180 0x80 Icenabler
-    ∷ range 0x200 0x80 Ispendr
-    ∷ range 0x280 0x80 Icpendr
-    ∷ range 0x300 0x80 Isactiver
-    ∷ range 0x380 0x80 Icactiver
-    ∷ range 0x400 1020 Ipriorityr
-    ∷ range 0x800 1020 Itargetsr
-    ∷ range 0xc00 0x100 Icfgr
+    ∷ range 0x080 0x80 (Bits Igroupr)
+    ∷ range 0x100 0x80 (Bits Isenabler)
+    ∷ range 0x180 0x80 (Bits Icenabler)
+    ∷ range 0x200 0x80 (Bits Ispendr)
+    ∷ range 0x280 0x80 (Bits Icpendr)
+    ∷ range 0x300 0x80 (Bits Isactiver)
+    ∷ range 0x380 0x80 (Bits Icactiver)
+    ∷ range 0x400 1020 (Bytes Ipriorityr)
+    ∷ range 0x800 1020 (Bytes Itargetsr)
+    ∷ range 0xc00 0x100 (Bits Icfgr)
     ∷ range 0xf00 4 Sgir
-    ∷ range 0xf10 16 Cpendsgir
-    ∷ range 0xf20 16 Spendsgir
+    ∷ range 0xf10 16 (Bytes Cpendsgir)
+    ∷ range 0xf20 16 (Bytes Spendsgir)
     ∷ []
 
 -- the range of a place that is in no register's
@@ -52,23 +56,29 @@ abbrev pub classAt : ℕ → Class
 classAt offset = rangeAt offset .class
 
 -- the number of a class: the place of its row, and 16 for the other places
+abbrev pub bitNumber : BitRegister → ℕ
+bitNumber Igroupr = 3
+bitNumber Isenabler = 4
+bitNumber Icenabler = 5
+bitNumber Ispendr = 6
+bitNumber Icpendr = 7
+bitNumber Isactiver = 8
+bitNumber Icactiver = 9
+bitNumber Icfgr = 12
+
+abbrev pub byteNumber : ByteRegister → ℕ
+byteNumber Ipriorityr = 10
+byteNumber Itargetsr = 11
+byteNumber Cpendsgir = 14
+byteNumber Spendsgir = 15
+
 abbrev pub numberOf : Class → ℕ
 numberOf Ctlr = 0
 numberOf Typer = 1
 numberOf Iidr = 2
-numberOf Igroupr = 3
-numberOf Isenabler = 4
-numberOf Icenabler = 5
-numberOf Ispendr = 6
-numberOf Icpendr = 7
-numberOf Isactiver = 8
-numberOf Icactiver = 9
-numberOf Ipriorityr = 10
-numberOf Itargetsr = 11
-numberOf Icfgr = 12
 numberOf Sgir = 13
-numberOf Cpendsgir = 14
-numberOf Spendsgir = 15
+numberOf (Bits register) = bitNumber register
+numberOf (Bytes register) = byteNumber register
 numberOf Other = 16
 
 -- the row at a number, and its class; numbers from 16 up have none

@@ -1,30 +1,16 @@
 // Where an access to the Distributor falls.
 ghost use mathlib.Core.Path.{_≡_};
-ghost use Rattle.register.specs.Distributor.{layoutOf, numbersPerByte, isBanked, Found, placeAt, plain, unfit, single, bitWord, byteArray, locateInFrame, locateDistributor};
+ghost use Rattle.register.specs.Distributor.{bitNumbersPerByte, isPriority, numbersPerByte, isBanked, Found, placeAt, plain, unfit, single, bitWord, byteArray, locateInFrame, locateDistributor};
 use crate::dispatch::class_at;
 use crate::frame::AccessWidth;
 use crate::frame::Refusal;
 use crate::frame::validate_frame_access;
+use crate::ranges::BitRegister;
+use crate::ranges::ByteRegister;
 use crate::ranges::Class;
 use interrupt::IntId;
 
 pub const DISTRIBUTOR_SIZE: u64 = 0x1000;
-
-// How the bytes of a class belong to interrupts.
-pub enum Layout {
-    // One register of 4 bytes.
-    Single,
-    // A bit for each interrupt.
-    Bits,
-    // Two bits for each.
-    BitPairs,
-    // A byte for each, and each vCPU has its own of numbers below 32.
-    Priorities,
-    // A byte for each.
-    Bytes,
-    // No register.
-    Nothing,
-}
 
 // What an accepted access meets. `first` is the number of the first interrupt that it reaches, 0 where the class has no numbers.
 pub struct Place {
@@ -53,56 +39,63 @@ impl Place {
     }
 }
 
-impl Class {
-    pub fn layout(self) -> Layout
-        ensures { λ r. ⌜ r ≡ layoutOf self ⌝ }
+impl BitRegister {
+    fn numbers_per_byte(self) -> u32
+        ensures { λ r. ⌜ r ≡ bitNumbersPerByte self ⌝ }
     {
         match self {
-            Class::Ctlr => Layout::Single,
-            Class::Typer => Layout::Single,
-            Class::Iidr => Layout::Single,
-            Class::Igroupr => Layout::Bits,
-            Class::Isenabler => Layout::Bits,
-            Class::Icenabler => Layout::Bits,
-            Class::Ispendr => Layout::Bits,
-            Class::Icpendr => Layout::Bits,
-            Class::Isactiver => Layout::Bits,
-            Class::Icactiver => Layout::Bits,
-            Class::Ipriorityr => Layout::Priorities,
-            Class::Itargetsr => Layout::Bytes,
-            Class::Icfgr => Layout::BitPairs,
-            Class::Sgir => Layout::Single,
-            Class::Cpendsgir => Layout::Bytes,
-            Class::Spendsgir => Layout::Bytes,
-            Class::Other => Layout::Nothing,
+            BitRegister::Igroupr => 8,
+            BitRegister::Isenabler => 8,
+            BitRegister::Icenabler => 8,
+            BitRegister::Ispendr => 8,
+            BitRegister::Icpendr => 8,
+            BitRegister::Isactiver => 8,
+            BitRegister::Icactiver => 8,
+            BitRegister::Icfgr => 4,
         }
     }
 }
 
-impl Layout {
+impl ByteRegister {
+    fn is_priority(self) -> bool
+        ensures { λ r. ⌜ r ≡ isPriority self ⌝ }
+    {
+        match self {
+            ByteRegister::Ipriorityr => true,
+            ByteRegister::Itargetsr => false,
+            ByteRegister::Cpendsgir => false,
+            ByteRegister::Spendsgir => false,
+        }
+    }
+}
+
+impl Class {
     fn numbers_per_byte(self) -> u32
         ensures { λ r. ⌜ r ≡ numbersPerByte self ⌝ }
     {
         match self {
-            Layout::Single => 0,
-            Layout::Bits => 8,
-            Layout::BitPairs => 4,
-            Layout::Priorities => 1,
-            Layout::Bytes => 1,
-            Layout::Nothing => 0,
+            Class::Ctlr => 0,
+            Class::Typer => 0,
+            Class::Iidr => 0,
+            Class::Sgir => 0,
+            Class::Bits(register) => register.numbers_per_byte(),
+            Class::Bytes(_) => 1,
+            Class::Other => 0,
         }
     }
 
+    // Each vCPU has its own of the numbers below 32.
     fn is_banked(self) -> bool
         ensures { λ r. ⌜ r ≡ isBanked self ⌝ }
     {
         match self {
-            Layout::Single => false,
-            Layout::Bits => true,
-            Layout::BitPairs => true,
-            Layout::Priorities => true,
-            Layout::Bytes => false,
-            Layout::Nothing => false,
+            Class::Ctlr => false,
+            Class::Typer => false,
+            Class::Iidr => false,
+            Class::Sgir => false,
+            Class::Bits(_) => true,
+            Class::Bytes(register) => register.is_priority(),
+            Class::Other => false,
         }
     }
 }
@@ -111,13 +104,12 @@ fn place_at(class: Class, offset: u64) -> Place
     requires { ⌜ Found class offset ⌝ }
     ensures { λ r. ⌜ r ≡ placeAt offset ⌝ }
 {
-    let layout = class.layout();
     let base = class.range().first;
-    let first = (offset - base) as u32 * layout.numbers_per_byte();
+    let first = (offset - base) as u32 * class.numbers_per_byte();
     Place {
         class,
         first: IntId(first),
-        private: layout.is_banked() & (first < 32),
+        private: class.is_banked() & (first < 32),
     }
 }
 
@@ -179,13 +171,14 @@ fn locate_in_frame(class: Class, offset: u64, width: AccessWidth) -> Distributor
     requires { ⌜ Found class offset ⌝ }
     ensures { λ r. ⌜ r ≡ locateInFrame offset width ⌝ }
 {
-    match class.layout() {
-        Layout::Single => single_at(class, offset, width),
-        Layout::Bits => bit_word_at(class, offset, width),
-        Layout::BitPairs => bit_word_at(class, offset, width),
-        Layout::Priorities => byte_array_at(class, offset, width),
-        Layout::Bytes => byte_array_at(class, offset, width),
-        Layout::Nothing => DistributorAccess::At(Place::plain(Class::Other)),
+    match class {
+        Class::Ctlr => single_at(class, offset, width),
+        Class::Typer => single_at(class, offset, width),
+        Class::Iidr => single_at(class, offset, width),
+        Class::Sgir => single_at(class, offset, width),
+        Class::Bits(_) => bit_word_at(class, offset, width),
+        Class::Bytes(_) => byte_array_at(class, offset, width),
+        Class::Other => DistributorAccess::At(Place::plain(Class::Other)),
     }
 }
 

@@ -1,12 +1,9 @@
 // The Distributor's registers and where each lies (IHI 0048, Table 4-1, "Distributor register map").
 ghost use mathlib.Core.Path.{_≡_};
-ghost use Rattle.register.specs.Ranges.{numberOf, classOf, rangeOf};
+ghost use Rattle.register.specs.Ranges.{bitNumber, byteNumber, numberOf, classOf, rangeOf};
 
-// Which register, or array of registers, a place of the Distributor belongs to.
-pub enum Class {
-    Ctlr,
-    Typer,
-    Iidr,
+// Registers with one bit for each interrupt, or two.
+pub enum BitRegister {
     Igroupr,
     Isenabler,
     Icenabler,
@@ -14,12 +11,25 @@ pub enum Class {
     Icpendr,
     Isactiver,
     Icactiver,
+    Icfgr,
+}
+
+// Registers with a byte for each interrupt.
+pub enum ByteRegister {
     Ipriorityr,
     Itargetsr,
-    Icfgr,
-    Sgir,
     Cpendsgir,
     Spendsgir,
+}
+
+// Which register, or array of registers, a place of the Distributor belongs to.
+pub enum Class {
+    Ctlr,
+    Typer,
+    Iidr,
+    Sgir,
+    Bits(BitRegister),
+    Bytes(ByteRegister),
     Other,
 }
 
@@ -50,52 +60,52 @@ const RANGES: [RegisterRange; 16] = [
     RegisterRange {
         first: 0x080,
         length: 0x80,
-        class: Class::Igroupr,
+        class: Class::Bits(BitRegister::Igroupr),
     },
     RegisterRange {
         first: 0x100,
         length: 0x80,
-        class: Class::Isenabler,
+        class: Class::Bits(BitRegister::Isenabler),
     },
     RegisterRange {
         first: 0x180,
         length: 0x80,
-        class: Class::Icenabler,
+        class: Class::Bits(BitRegister::Icenabler),
     },
     RegisterRange {
         first: 0x200,
         length: 0x80,
-        class: Class::Ispendr,
+        class: Class::Bits(BitRegister::Ispendr),
     },
     RegisterRange {
         first: 0x280,
         length: 0x80,
-        class: Class::Icpendr,
+        class: Class::Bits(BitRegister::Icpendr),
     },
     RegisterRange {
         first: 0x300,
         length: 0x80,
-        class: Class::Isactiver,
+        class: Class::Bits(BitRegister::Isactiver),
     },
     RegisterRange {
         first: 0x380,
         length: 0x80,
-        class: Class::Icactiver,
+        class: Class::Bits(BitRegister::Icactiver),
     },
     RegisterRange {
         first: 0x400,
         length: 1020,
-        class: Class::Ipriorityr,
+        class: Class::Bytes(ByteRegister::Ipriorityr),
     },
     RegisterRange {
         first: 0x800,
         length: 1020,
-        class: Class::Itargetsr,
+        class: Class::Bytes(ByteRegister::Itargetsr),
     },
     RegisterRange {
         first: 0xc00,
         length: 0x100,
-        class: Class::Icfgr,
+        class: Class::Bits(BitRegister::Icfgr),
     },
     RegisterRange {
         first: 0xf00,
@@ -105,14 +115,44 @@ const RANGES: [RegisterRange; 16] = [
     RegisterRange {
         first: 0xf10,
         length: 16,
-        class: Class::Cpendsgir,
+        class: Class::Bytes(ByteRegister::Cpendsgir),
     },
     RegisterRange {
         first: 0xf20,
         length: 16,
-        class: Class::Spendsgir,
+        class: Class::Bytes(ByteRegister::Spendsgir),
     },
 ];
+
+impl BitRegister {
+    fn number(self) -> u8
+        ensures { λ r. ⌜ r ≡ bitNumber self ⌝ }
+    {
+        match self {
+            BitRegister::Igroupr => 3,
+            BitRegister::Isenabler => 4,
+            BitRegister::Icenabler => 5,
+            BitRegister::Ispendr => 6,
+            BitRegister::Icpendr => 7,
+            BitRegister::Isactiver => 8,
+            BitRegister::Icactiver => 9,
+            BitRegister::Icfgr => 12,
+        }
+    }
+}
+
+impl ByteRegister {
+    fn number(self) -> u8
+        ensures { λ r. ⌜ r ≡ byteNumber self ⌝ }
+    {
+        match self {
+            ByteRegister::Ipriorityr => 10,
+            ByteRegister::Itargetsr => 11,
+            ByteRegister::Cpendsgir => 14,
+            ByteRegister::Spendsgir => 15,
+        }
+    }
+}
 
 impl Class {
     pub fn number(self) -> u8
@@ -122,19 +162,9 @@ impl Class {
             Class::Ctlr => 0,
             Class::Typer => 1,
             Class::Iidr => 2,
-            Class::Igroupr => 3,
-            Class::Isenabler => 4,
-            Class::Icenabler => 5,
-            Class::Ispendr => 6,
-            Class::Icpendr => 7,
-            Class::Isactiver => 8,
-            Class::Icactiver => 9,
-            Class::Ipriorityr => 10,
-            Class::Itargetsr => 11,
-            Class::Icfgr => 12,
             Class::Sgir => 13,
-            Class::Cpendsgir => 14,
-            Class::Spendsgir => 15,
+            Class::Bits(register) => register.number(),
+            Class::Bytes(register) => register.number(),
             Class::Other => 16,
         }
     }
@@ -146,19 +176,19 @@ impl Class {
             0 => Class::Ctlr,
             1 => Class::Typer,
             2 => Class::Iidr,
-            3 => Class::Igroupr,
-            4 => Class::Isenabler,
-            5 => Class::Icenabler,
-            6 => Class::Ispendr,
-            7 => Class::Icpendr,
-            8 => Class::Isactiver,
-            9 => Class::Icactiver,
-            10 => Class::Ipriorityr,
-            11 => Class::Itargetsr,
-            12 => Class::Icfgr,
+            3 => Class::Bits(BitRegister::Igroupr),
+            4 => Class::Bits(BitRegister::Isenabler),
+            5 => Class::Bits(BitRegister::Icenabler),
+            6 => Class::Bits(BitRegister::Ispendr),
+            7 => Class::Bits(BitRegister::Icpendr),
+            8 => Class::Bits(BitRegister::Isactiver),
+            9 => Class::Bits(BitRegister::Icactiver),
+            10 => Class::Bytes(ByteRegister::Ipriorityr),
+            11 => Class::Bytes(ByteRegister::Itargetsr),
+            12 => Class::Bits(BitRegister::Icfgr),
             13 => Class::Sgir,
-            14 => Class::Cpendsgir,
-            15 => Class::Spendsgir,
+            14 => Class::Bytes(ByteRegister::Cpendsgir),
+            15 => Class::Bytes(ByteRegister::Spendsgir),
             _ => Class::Other,
         }
     }

@@ -5,11 +5,12 @@
 ghost use Prim.Native.Nat.{_+_, _*_, _≤_, _^_};
 use libc::STDOUT_FILENO;
 use register::AccessWidth;
+use register::BitRegister;
+use register::ByteRegister;
 use register::Class;
 use register::CpuInterfaceAccess;
 use register::CpuInterfaceRegister;
 use register::DistributorAccess;
-use register::Layout;
 use register::Place;
 use register::Refusal;
 
@@ -18,58 +19,69 @@ enum Frame {
     CpuInterface,
 }
 
+fn show(text: &[u8]) {
+    io::write_all(STDOUT_FILENO, text);
+}
+
 fn number(n: u64) {
     io::print_decimal(STDOUT_FILENO, n);
 }
 
 fn show_refusal(refusal: Refusal) {
-    io::write_all(STDOUT_FILENO, b" ");
+    show(b" ");
     number(refusal.number() as u64);
 }
 
-fn show_class(class: Class) {
-    match class {
-        Class::Ctlr => io::write_all(STDOUT_FILENO, b"ctlr"),
-        Class::Typer => io::write_all(STDOUT_FILENO, b"typer"),
-        Class::Iidr => io::write_all(STDOUT_FILENO, b"iidr"),
-        Class::Igroupr => io::write_all(STDOUT_FILENO, b"igroupr"),
-        Class::Isenabler => io::write_all(STDOUT_FILENO, b"isenabler"),
-        Class::Icenabler => io::write_all(STDOUT_FILENO, b"icenabler"),
-        Class::Ispendr => io::write_all(STDOUT_FILENO, b"ispendr"),
-        Class::Icpendr => io::write_all(STDOUT_FILENO, b"icpendr"),
-        Class::Isactiver => io::write_all(STDOUT_FILENO, b"isactiver"),
-        Class::Icactiver => io::write_all(STDOUT_FILENO, b"icactiver"),
-        Class::Ipriorityr => io::write_all(STDOUT_FILENO, b"ipriorityr"),
-        Class::Itargetsr => io::write_all(STDOUT_FILENO, b"itargetsr"),
-        Class::Icfgr => io::write_all(STDOUT_FILENO, b"icfgr"),
-        Class::Sgir => io::write_all(STDOUT_FILENO, b"sgir"),
-        Class::Cpendsgir => io::write_all(STDOUT_FILENO, b"cpendsgir"),
-        Class::Spendsgir => io::write_all(STDOUT_FILENO, b"spendsgir"),
-        Class::Other => io::write_all(STDOUT_FILENO, b"-"),
+fn show_bits(register: BitRegister) {
+    match register {
+        BitRegister::Igroupr => show(b"igroupr"),
+        BitRegister::Isenabler => show(b"isenabler"),
+        BitRegister::Icenabler => show(b"icenabler"),
+        BitRegister::Ispendr => show(b"ispendr"),
+        BitRegister::Icpendr => show(b"icpendr"),
+        BitRegister::Isactiver => show(b"isactiver"),
+        BitRegister::Icactiver => show(b"icactiver"),
+        BitRegister::Icfgr => show(b"icfgr"),
     }
-    ;
+}
+
+fn show_bytes(register: ByteRegister) {
+    match register {
+        ByteRegister::Ipriorityr => show(b"ipriorityr"),
+        ByteRegister::Itargetsr => show(b"itargetsr"),
+        ByteRegister::Cpendsgir => show(b"cpendsgir"),
+        ByteRegister::Spendsgir => show(b"spendsgir"),
+    }
 }
 
 fn show_place(place: Place) {
     let class = place.class;
-    io::write_all(STDOUT_FILENO, b" ");
+    let first = place.first.0 as u64;
+    show(b" ");
     if place.private {
-        io::write_all(STDOUT_FILENO, b"own:");
+        show(b"own:");
     }
-    show_class(class);
-    match class.layout() {
-        Layout::Single => {}
-        Layout::Nothing => {}
-        _ => number(place.first.0 as u64),
+    match class {
+        Class::Ctlr => show(b"ctlr"),
+        Class::Typer => show(b"typer"),
+        Class::Iidr => show(b"iidr"),
+        Class::Sgir => show(b"sgir"),
+        Class::Bits(register) => {
+            show_bits(register);
+            number(first);
+        }
+        Class::Bytes(register) => {
+            show_bytes(register);
+            number(first);
+        }
+        Class::Other => show(b"-"),
     }
 }
 
 fn show_distributor(offset: u64, width: AccessWidth) {
     match register::locate_distributor(offset, width) {
         DistributorAccess::Refused(refusal) => show_refusal(refusal),
-        DistributorAccess::PrivateWidth => {
-            io::write_all(STDOUT_FILENO, b" own:2");
-        }
+        DistributorAccess::PrivateWidth => show(b" own:2"),
         DistributorAccess::At(place) => show_place(place),
     }
 }
@@ -77,23 +89,22 @@ fn show_distributor(offset: u64, width: AccessWidth) {
 // The aliases act as what they are aliases of, and APR as an unnamed place.
 fn show_register(register: CpuInterfaceRegister) {
     match register {
-        CpuInterfaceRegister::Ctlr => io::write_all(STDOUT_FILENO, b" ctlr"),
-        CpuInterfaceRegister::Pmr => io::write_all(STDOUT_FILENO, b" pmr"),
-        CpuInterfaceRegister::Bpr => io::write_all(STDOUT_FILENO, b" bpr"),
-        CpuInterfaceRegister::Iar => io::write_all(STDOUT_FILENO, b" iar"),
-        CpuInterfaceRegister::Eoir => io::write_all(STDOUT_FILENO, b" eoir"),
-        CpuInterfaceRegister::Rpr => io::write_all(STDOUT_FILENO, b" rpr"),
-        CpuInterfaceRegister::Hppir => io::write_all(STDOUT_FILENO, b" hppir"),
-        CpuInterfaceRegister::Abpr => io::write_all(STDOUT_FILENO, b" bpr"),
-        CpuInterfaceRegister::Aiar => io::write_all(STDOUT_FILENO, b" iar"),
-        CpuInterfaceRegister::Aeoir => io::write_all(STDOUT_FILENO, b" eoir"),
-        CpuInterfaceRegister::Ahppir => io::write_all(STDOUT_FILENO, b" hppir"),
-        CpuInterfaceRegister::Apr => io::write_all(STDOUT_FILENO, b" -"),
-        CpuInterfaceRegister::Iidr => io::write_all(STDOUT_FILENO, b" iidr"),
-        CpuInterfaceRegister::Dir => io::write_all(STDOUT_FILENO, b" dir"),
-        CpuInterfaceRegister::Other => io::write_all(STDOUT_FILENO, b" -"),
+        CpuInterfaceRegister::Ctlr => show(b" ctlr"),
+        CpuInterfaceRegister::Pmr => show(b" pmr"),
+        CpuInterfaceRegister::Bpr => show(b" bpr"),
+        CpuInterfaceRegister::Iar => show(b" iar"),
+        CpuInterfaceRegister::Eoir => show(b" eoir"),
+        CpuInterfaceRegister::Rpr => show(b" rpr"),
+        CpuInterfaceRegister::Hppir => show(b" hppir"),
+        CpuInterfaceRegister::Abpr => show(b" bpr"),
+        CpuInterfaceRegister::Aiar => show(b" iar"),
+        CpuInterfaceRegister::Aeoir => show(b" eoir"),
+        CpuInterfaceRegister::Ahppir => show(b" hppir"),
+        CpuInterfaceRegister::Apr => show(b" -"),
+        CpuInterfaceRegister::Iidr => show(b" iidr"),
+        CpuInterfaceRegister::Dir => show(b" dir"),
+        CpuInterfaceRegister::Other => show(b" -"),
     }
-    ;
 }
 
 fn show_cpu_interface(offset: u64, width: AccessWidth) {
@@ -103,7 +114,7 @@ fn show_cpu_interface(offset: u64, width: AccessWidth) {
     }
 }
 
-fn show(frame: Frame, offset: u64, width: AccessWidth) {
+fn show_access(frame: Frame, offset: u64, width: AccessWidth) {
     match frame {
         Frame::Distributor => show_distributor(offset, width),
         Frame::CpuInterface => show_cpu_interface(offset, width),
@@ -111,18 +122,17 @@ fn show(frame: Frame, offset: u64, width: AccessWidth) {
 }
 
 fn start(frame: Frame, offset: u64) {
-    show(frame, offset, AccessWidth::Byte);
-    show(frame, offset, AccessWidth::Word);
-    show(frame, offset, AccessWidth::Dword);
-    show(frame, offset, AccessWidth::Qword);
+    show_access(frame, offset, AccessWidth::Byte);
+    show_access(frame, offset, AccessWidth::Word);
+    show_access(frame, offset, AccessWidth::Dword);
+    show_access(frame, offset, AccessWidth::Qword);
 }
 
 fn letter(frame: Frame) {
     match frame {
-        Frame::Distributor => io::write_all(STDOUT_FILENO, b"d "),
-        Frame::CpuInterface => io::write_all(STDOUT_FILENO, b"c "),
+        Frame::Distributor => show(b"d "),
+        Frame::CpuInterface => show(b"c "),
     }
-    ;
 }
 
 fn place(frame: Frame, offset: u64)
@@ -134,7 +144,7 @@ fn place(frame: Frame, offset: u64)
     start(frame, offset + 1);
     start(frame, offset + 2);
     start(frame, offset + 3);
-    io::write_all(STDOUT_FILENO, b"\n");
+    show(b"\n");
 }
 
 fn places(frame: Frame, first: u64, count: u64)

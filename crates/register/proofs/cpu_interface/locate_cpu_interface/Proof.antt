@@ -1,32 +1,23 @@
+-- `locate_cpu_interface` is `locateCpuInterface`, test by test.
 use borrow.Author.Needs.{needs}
 use borrow.Author.Tests.{not-true, not-false}
 use Rattle.register.specs.CpuInterface.{locateCpuInterface}
 use Rattle.register.proofs.cpu_interface.locate_cpu_interface.Statement.{statement}
 use Rattle.register.proofs.cpu_interface.locate_cpu_interface.Tie as tie
-use Rattle.register.proofs.cpu_interface.locate_cpu_interface.Reads as reads
-use Rattle.register.proofs.cpu_interface.locate_cpu_interface.Lts as lts
-use Rattle.register.proofs.cpu_interface.CpuInterfaceRegister.at.Reads as at-reads
-use Rattle.register.proofs.frame.AccessWidth.is_dword.Reads as is-dword-reads
-use Rattle.register.proofs.frame.validate_frame_access.Reads as validate-frame-access-reads
 
--- src/cpu_interface.rt:61:9
 validate-frame-access-requires : tie.Need-validate-frame-access-requires
 validate-frame-access-requires c κs = search needs
 
--- src/cpu_interface.rt:62:9
 returns : tie.Need-returns
 unfolding locateCpuInterface
 returns c = simp (← c .before .validate-frame-access .ensures, not-true (c .before .validate-frame-access .result) (c .if1 .taken))
 
--- src/cpu_interface.rt:64:8
 is-dword-requires : tie.Need-is-dword-requires
 is-dword-requires c κs = search needs
 
--- src/cpu_interface.rt:65:32
 at-requires : tie.Need-at-requires
 at-requires c κs = search needs
 
--- src/cpu_interface.rt:58:1
 returns-2 : tie.Need-returns-2
 unfolding locateCpuInterface
 returns-2 c =
@@ -38,7 +29,6 @@ returns-2 c =
       c .at .ensures,
     )
 
--- src/cpu_interface.rt:58:1
 returns-3 : tie.Need-returns-3
 unfolding locateCpuInterface
 returns-3 c = simp (← c .before .before .before .validate-frame-access .ensures, not-false (c .before .before .before .validate-frame-access .result) (c .before .before .if1 .left), ← c .before .is-dword .ensures, c .if2 .left)

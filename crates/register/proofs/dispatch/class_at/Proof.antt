@@ -1,3 +1,4 @@
+-- `class_at` is `classAt`: the table's number names the class of the word around the offset, which is the offset's.
 use mathlib.Core.Path.{ap, sym, _∙_}
 use Prim.Native.Nat.{_*_, _/_}
 use borrow.Author.Needs.{needs}
@@ -6,25 +7,17 @@ use Rattle.register.specs.Ranges.{ranges, rangeIn, rangeAt, classAt, cla
 use Rattle.register.proofs.Map.{class-of-number, range-at-word, range-past}
 use Rattle.register.proofs.dispatch.class_at.Statement.{statement}
 use Rattle.register.proofs.dispatch.class_at.Tie as tie
-use Rattle.register.proofs.dispatch.class_at.Reads as reads
-use Rattle.register.proofs.dispatch.class_at.Lts as lts
-use Rattle.register.proofs.dispatch.class_number.Reads as class-number-reads
-use Rattle.register.proofs.ranges.Class.of_number.Reads as of-number-reads
 
--- src/dispatch.rt:1070:9
 returns : tie.Need-returns
 unfolding rangeAt rangeIn ranges
 returns c = simp (c .if1 .taken)
 
--- src/dispatch.rt:1073:26
 class-number-requires : tie.Need-class-number-requires
 class-number-requires c κs = search needs
 
--- src/dispatch.rt:1073:9
 of-number-requires : tie.Need-of-number-requires
 of-number-requires c κs = search needs
 
--- src/dispatch.rt:1066:1
 returns-2 : tie.Need-returns-2
 returns-2 c =
     c .of-number .ensures
@@ -32,7 +25,6 @@ returns-2 c =
     ∙ class-of-number (classAt (4 * (c .before .before .before .before .args .offset / 4)))
     ∙ ap (λ (r : RegisterRange). r .class) (range-at-word (c .before .before .before .before .args .offset))
 
--- src/dispatch.rt:1066:1
 returns-3 : tie.Need-returns-3
 returns-3 c = sym (ap (λ (r : RegisterRange). r .class) (range-past (c .before .before .args .offset) (search needs)))
 

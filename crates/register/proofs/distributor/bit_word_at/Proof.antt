@@ -1,37 +1,27 @@
+-- `bit_word_at` is `bitWord`, test by test.
 use borrow.Author.Needs.{needs}
 use borrow.Author.Tests.{eq-eqb, ne-eqb}
 use Rattle.register.specs.Distributor.{bitWord}
 use Rattle.register.proofs.distributor.bit_word_at.Statement.{statement}
 use Rattle.register.proofs.distributor.bit_word_at.Tie as tie
-use Rattle.register.proofs.distributor.bit_word_at.Reads as reads
-use Rattle.register.proofs.distributor.bit_word_at.Lts as lts
-use Rattle.register.proofs.distributor.place_at.Reads as place-at-reads
-use Rattle.register.proofs.distributor.unfit_at.Reads as unfit-at-reads
-use Rattle.register.proofs.frame.AccessWidth.is_dword.Reads as is-dword-reads
 
--- src/distributor.rt:154:9
 returns : tie.Need-returns
 unfolding bitWord
 returns c = simp (ne-eqb _ _ (c .if1 .taken))
 
--- src/distributor.rt:156:8
 is-dword-requires : tie.Need-is-dword-requires
 is-dword-requires c κs = search needs
 
--- src/distributor.rt:157:31
 place-at-requires : tie.Need-place-at-requires
 place-at-requires c κs = search needs
 
--- src/distributor.rt:159:9
 unfit-at-requires : tie.Need-unfit-at-requires
 unfit-at-requires c κs = search needs
 
--- src/distributor.rt:149:1
 returns-2 : tie.Need-returns-2
 unfolding bitWord
 returns-2 c = simp (eq-eqb _ _ (c .before .before .before .if1 .left), ← c .before .before .is-dword .ensures, c .before .if2 .taken, c .place-at .ensures)
 
--- src/distributor.rt:149:1
 returns-3 : tie.Need-returns-3
 unfolding bitWord
 returns-3 c = simp (eq-eqb _ _ (c .before .before .before .if1 .left), ← c .before .before .is-dword .ensures, c .before .if2 .left, c .unfit-at .ensures)

@@ -1,24 +1,17 @@
+-- `locate_distributor` is `locateDistributor`: the frame's test, and what it tells the rest.
 use mathlib.Core.Path.{sym, _∙_}
 use borrow.Author.Needs.{needs}
 use Rattle.register.specs.Distributor.{locateDistributor}
 use Rattle.register.proofs.Access.{in-frame-below}
 use Rattle.register.proofs.distributor.locate_distributor.Statement.{statement}
 use Rattle.register.proofs.distributor.locate_distributor.Tie as tie
-use Rattle.register.proofs.distributor.locate_distributor.Reads as reads
-use Rattle.register.proofs.distributor.locate_distributor.Lts as lts
-use Rattle.register.proofs.dispatch.class_at.Reads as class-at-reads
-use Rattle.register.proofs.distributor.locate_in_frame.Reads as locate-in-frame-reads
-use Rattle.register.proofs.frame.validate_frame_access.Reads as validate-frame-access-reads
 
--- src/distributor.rt:191:8
 validate-frame-access-requires : tie.Need-validate-frame-access-requires
 validate-frame-access-requires c κs = search needs
 
--- src/distributor.rt:192:25
 class-at-requires : tie.Need-class-at-requires
 class-at-requires c κs = search needs
 
--- src/distributor.rt:192:9
 locate-in-frame-requires : tie.Need-locate-in-frame-requires
 locate-in-frame-requires c κs =
     record {
@@ -28,12 +21,10 @@ locate-in-frame-requires c κs =
           (sym (c .before .before .validate-frame-access .ensures) ∙ c .before .if1 .taken);
     }
 
--- src/distributor.rt:188:1
 returns : tie.Need-returns
 unfolding locateDistributor
 returns c = simp (← c .before .before .before .validate-frame-access .ensures, c .before .before .if1 .taken, c .locate-in-frame .ensures)
 
--- src/distributor.rt:188:1
 returns-2 : tie.Need-returns-2
 unfolding locateDistributor
 returns-2 c = simp (← c .before .validate-frame-access .ensures, c .if1 .left)

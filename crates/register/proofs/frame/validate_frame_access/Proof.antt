@@ -1,3 +1,4 @@
+-- `validate_frame_access` is `inFrame`: what is compared is the room behind the offset.
 use mathlib.Core.Path.{_≡_, refl, _∙_}
 use mathlib.Core.Bool.{Bool, true, false}
 use Prim.Native.Nat.{ℕ, _+_, _-_, _≤_, _<_}
@@ -8,10 +9,6 @@ use borrow.Author.Tests.{leb-true, leb-false, le-leb, lt-leb}
 use Rattle.register.specs.Frame.{bytes, inFrame}
 use Rattle.register.proofs.frame.validate_frame_access.Statement.{statement}
 use Rattle.register.proofs.frame.validate_frame_access.Tie as tie
-use Rattle.register.proofs.frame.validate_frame_access.Reads as reads
-use Rattle.register.proofs.frame.validate_frame_access.Lts as lts
-use Rattle.register.proofs.frame.AccessWidth.aligned.Reads as aligned-reads
-use Rattle.register.proofs.frame.AccessWidth.size.Reads as size-reads
 
 -- the room that is left behind the offset holds the access exactly where its end is in the frame
 room : (size offset b : ℕ) → offset ≤ size → leb (offset + b) size ≡ leb b (size - offset)
@@ -21,19 +18,15 @@ room size offset b h = go (leb b (size - offset)) refl
     go true e = let i : b ≤ size - offset = leb-true b (size - offset) e in le-leb (offset + b) size (omega arith)
     go false e = let i : size - offset < b = leb-false b (size - offset) e in lt-leb (offset + b) size (omega arith)
 
--- src/frame.rt:84:9
 returns : tie.Need-returns
 returns c = simp (lt-leb (c .before .args .offset + bytes (c .before .args .width)) (c .before .args .size) (search needs))
 
--- src/frame.rt:86:6
 size-requires : tie.Need-size-requires
 size-requires c κs = search needs
 
--- src/frame.rt:86:46
 aligned-requires : tie.Need-aligned-requires
 aligned-requires c κs = search needs
 
--- src/frame.rt:80:1
 returns-2 : tie.Need-returns-2
 returns-2 c =
     simp (

@@ -1,81 +1,65 @@
+-- `CpuInterfaceRegister::at` is `registerAt`: each offset by its row, and any other by none.
 use borrow.Author.Tests.{ne-eqb}
 use Rattle.register.specs.CpuInterface.{registers, registerIn, registerAt}
 use Rattle.register.proofs.cpu_interface.CpuInterfaceRegister.at.Statement.{statement}
 use Rattle.register.proofs.cpu_interface.CpuInterfaceRegister.at.Tie as tie
-use Rattle.register.proofs.cpu_interface.CpuInterfaceRegister.at.Reads as reads
-use Rattle.register.proofs.cpu_interface.CpuInterfaceRegister.at.Lts as lts
 
--- src/cpu_interface.rt:34:5
 returns : tie.Need-returns
 unfolding registerAt registerIn registers
 returns c = simp (c .match .keys1)
 
--- src/cpu_interface.rt:34:5
 returns-2 : tie.Need-returns-2
 unfolding registerAt registerIn registers
 returns-2 c = simp (c .match .keys2)
 
--- src/cpu_interface.rt:34:5
 returns-3 : tie.Need-returns-3
 unfolding registerAt registerIn registers
 returns-3 c = simp (c .match .keys3)
 
--- src/cpu_interface.rt:34:5
 returns-4 : tie.Need-returns-4
 unfolding registerAt registerIn registers
 returns-4 c = simp (c .match .keys4)
 
--- src/cpu_interface.rt:34:5
 returns-5 : tie.Need-returns-5
 unfolding registerAt registerIn registers
 returns-5 c = simp (c .match .keys5)
 
--- src/cpu_interface.rt:34:5
 returns-6 : tie.Need-returns-6
 unfolding registerAt registerIn registers
 returns-6 c = simp (c .match .keys6)
 
--- src/cpu_interface.rt:34:5
 returns-7 : tie.Need-returns-7
 unfolding registerAt registerIn registers
 returns-7 c = simp (c .match .keys7)
 
--- src/cpu_interface.rt:34:5
 returns-8 : tie.Need-returns-8
 unfolding registerAt registerIn registers
 returns-8 c = simp (c .match .keys8)
 
--- src/cpu_interface.rt:34:5
 returns-9 : tie.Need-returns-9
 unfolding registerAt registerIn registers
 returns-9 c = simp (c .match .keys9)
 
--- src/cpu_interface.rt:34:5
 returns-10 : tie.Need-returns-10
 unfolding registerAt registerIn registers
 returns-10 c = simp (c .match .keys10)
 
--- src/cpu_interface.rt:34:5
 returns-11 : tie.Need-returns-11
 unfolding registerAt registerIn registers
 returns-11 c = simp (c .match .keys11)
 
--- src/cpu_interface.rt:34:5
 returns-12 : tie.Need-returns-12
 unfolding registerAt registerIn registers
 returns-12 c = simp (c .match .keys12)
 
--- src/cpu_interface.rt:34:5
 returns-13 : tie.Need-returns-13
 unfolding registerAt registerIn registers
 returns-13 c = simp (c .match .keys13)
 
--- src/cpu_interface.rt:34:5
 returns-14 : tie.Need-returns-14
 unfolding registerAt registerIn registers
 returns-14 c = simp (c .match .keys14)
 
--- src/cpu_interface.rt:34:5
 returns-15 : tie.Need-returns-15
 unfolding registerAt registerIn registers
 returns-15 c =

@@ -1,38 +1,29 @@
+-- `AccessWidth::aligned` is `aligned`, width by width.
 use borrow.Author.Needs.{needs}
 use Rattle.register.proofs.frame.AccessWidth.aligned.Statement.{statement}
 use Rattle.register.proofs.frame.AccessWidth.aligned.Tie as tie
-use Rattle.register.proofs.frame.AccessWidth.aligned.Reads as reads
-use Rattle.register.proofs.frame.AccessWidth.aligned.Lts as lts
 
--- src/frame.rt:54:34
 enum-told : tie.Need-enum-told
 enum-told c = search needs
 
--- src/frame.rt:55:34
 enum-told-2 : tie.Need-enum-told-2
 enum-told-2 c = search needs
 
--- src/frame.rt:56:35
 enum-told-3 : tie.Need-enum-told-3
 enum-told-3 c = search needs
 
--- src/frame.rt:57:35
 enum-told-4 : tie.Need-enum-told-4
 enum-told-4 c = search needs
 
--- src/frame.rt:50:5
 returns : tie.Need-returns
 returns c = simp (c .enum-told .given .1)
 
--- src/frame.rt:50:5
 returns-2 : tie.Need-returns-2
 returns-2 c = simp (c .enum-told2 .given .1)
 
--- src/frame.rt:50:5
 returns-3 : tie.Need-returns-3
 returns-3 c = simp (c .enum-told3 .given .1)
 
--- src/frame.rt:50:5
 returns-4 : tie.Need-returns-4
 returns-4 c = simp (c .enum-told4 .given .1)
 
