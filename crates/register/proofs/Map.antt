@@ -17,7 +17,7 @@ use Rattle.register.specs.declared.ranges.ByteRegister.the-variants.{Ipr
 use Rattle.register.specs.declared.ranges.Class.{Class}
 use Rattle.register.specs.declared.ranges.Class.the-variants.{Ctlr, Typer, Iidr, Sgir, Bits, Bytes, Other}
 use Rattle.register.specs.declared.ranges.RegisterRange.{RegisterRange}
-use Rattle.register.specs.Distributor.{bitNumbersPerByte, numbersPerByte}
+use Rattle.register.specs.Distributor.{bitNumbersPerByte}
 use Rattle.register.specs.Ranges.{ranges, nowhere, holds, rangeIn, rangeAt, classAt, numberOf, rangeNumbered, classOf, rangeOf}
 use Rattle.register.proofs.Table.{both-left, both-right, every, at, tabulate, getD-tabulate}
 
@@ -215,21 +215,12 @@ class-numbers k h = getD-tabulate number 0 1024 k 0 h ∙ ap number (zero-add k)
     number n = numberOf (classAt (4 * n))
 
 -- a byte belongs to 8 interrupts at most
-few-in-bits : (r : BitRegister) → bitNumbersPerByte r ≤ 8
-few-in-bits Igroupr = omega arith
-few-in-bits Isenabler = omega arith
-few-in-bits Icenabler = omega arith
-few-in-bits Ispendr = omega arith
-few-in-bits Icpendr = omega arith
-few-in-bits Isactiver = omega arith
-few-in-bits Icactiver = omega arith
-few-in-bits Icfgr = omega arith
-
-pub few-numbers : (c : Class) → numbersPerByte c ≤ 8
-few-numbers Ctlr = omega arith
-few-numbers Typer = omega arith
-few-numbers Iidr = omega arith
-few-numbers Sgir = omega arith
-few-numbers (Bits register) = few-in-bits register
-few-numbers (Bytes register) = omega arith
-few-numbers Other = omega arith
+pub few-numbers : (r : BitRegister) → bitNumbersPerByte r ≤ 8
+few-numbers Igroupr = omega arith
+few-numbers Isenabler = omega arith
+few-numbers Icenabler = omega arith
+few-numbers Ispendr = omega arith
+few-numbers Icpendr = omega arith
+few-numbers Isactiver = omega arith
+few-numbers Icactiver = omega arith
+few-numbers Icfgr = omega arith

@@ -119,43 +119,43 @@ chosen : {w : AccessWidth} {x y : DistributorAccess} (b : Bool) → (b ≡ true 
 chosen true p q = p refl
 chosen false p q = q refl
 
-unfitted : (o : ℕ) (w : AccessWidth) → Bounded w (unfit o)
+unfitted : (p : Place) (w : AccessWidth) → Bounded w (unfit p)
 unfolding unfit
-unfitted o w = chosen (isPrivate o) (λ e. record { bound = tt }) (λ e. record { bound = tt })
+unfitted p w = chosen (p .private) (λ e. record { bound = tt }) (λ e. record { bound = tt })
 
-in-word : (o : ℕ) (w : AccessWidth) → aligned o w ≡ true → Bounded w (bitWord o w)
+in-word : (o : ℕ) (w : AccessWidth) → aligned o w ≡ true → Bounded w (bitWord (placeAt o) o w)
 unfolding bitWord
 in-word o w a =
-    chosen (wordStart o) (λ s. chosen (isDword w) (λ d. record { bound = placed o w (not-qword w d) a }) (λ d. unfitted o w)) (λ s. record { bound = tt })
+    chosen (wordStart o) (λ s. chosen (isDword w) (λ d. record { bound = placed o w (not-qword w d) a }) (λ d. unfitted (placeAt o) w)) (λ s. record { bound = tt })
 
-in-bytes : (o : ℕ) (w : AccessWidth) → aligned o w ≡ true → Bounded w (byteArray o w)
+in-bytes : (o : ℕ) (w : AccessWidth) → aligned o w ≡ true → Bounded w (byteArray (placeAt o) w)
 unfolding byteArray
-in-bytes o w a = chosen (isQword w) (λ q. unfitted o w) (λ q. record { bound = placed o w q a })
+in-bytes o w a = chosen (isQword w) (λ q. unfitted (placeAt o) w) (λ q. record { bound = placed o w q a })
 
 -- a single register has no numbers
-alone : (o : ℕ) (w : AccessWidth) → numbersPerByte (classAt o) ≡ 0 → Bounded w (single o w)
+alone : (c : Class) (o : ℕ) (w : AccessWidth) → numbersPerByte c ≡ 0 → Bounded w (single c o w)
 unfolding single
-alone o w e =
+alone c o w e =
     chosen (wordStart o)
     (λ s. chosen (isDword w) (λ d. record { bound = subst No-numbers (sym e) (omega arith) }) (λ d. record { bound = tt }))
     (λ s. record { bound = omega arith })
   where
     No-numbers : ℕ → Type 0
-    No-numbers n = 0 + n * bytes w ≤ rangeOf (classAt o) .length * n
+    No-numbers n = 0 + n * bytes w ≤ rangeOf c .length * n
 
-by-class : (o : ℕ) (w : AccessWidth) → aligned o w ≡ true → (c : Class) → classAt o ≡ c → Bounded w (within c o w)
-by-class o w a Ctlr e = alone o w (ap numbersPerByte e)
-by-class o w a Typer e = alone o w (ap numbersPerByte e)
-by-class o w a Iidr e = alone o w (ap numbersPerByte e)
-by-class o w a Sgir e = alone o w (ap numbersPerByte e)
-by-class o w a (Bits register) e = in-word o w a
-by-class o w a (Bytes register) e = in-bytes o w a
-by-class o w a Other e = record { bound = omega arith }
+by-class : (o : ℕ) (w : AccessWidth) → aligned o w ≡ true → (c : Class) → Bounded w (within c o w)
+by-class o w a Ctlr = alone Ctlr o w refl
+by-class o w a Typer = alone Typer o w refl
+by-class o w a Iidr = alone Iidr o w refl
+by-class o w a Sgir = alone Sgir o w refl
+by-class o w a (Bits register) = in-word o w a
+by-class o w a (Bytes register) = in-bytes o w a
+by-class o w a Other = record { bound = omega arith }
 
 bounded : (o : ℕ) (w : AccessWidth) → Bounded w (locateDistributor o w)
 unfolding locateDistributor locateInFrame
 bounded o w =
-    chosen (inFrame 0x1000 o w) (λ e. by-class o w (in-frame-aligned 0x1000 o w e) (classAt o) refl) (λ e. record { bound = tt })
+    chosen (inFrame 0x1000 o w) (λ e. by-class o w (in-frame-aligned 0x1000 o w e) (classAt o)) (λ e. record { bound = tt })
 
 pub reach-bound : (o : ℕ) (w : AccessWidth) (p : Place) → locateDistributor o w ≡ At p → reach p w ≤ numbers p
 reach-bound o w p e = subst (Bounded w) e (bounded o w) .bound

@@ -4,7 +4,6 @@ use mathlib.Core.Bool.{Bool, true, false, cond, not, _&&_}
 use mathlib.Core.Path.{_≡_}
 use Prim.Native.Nat.{ℕ, _-_, _*_, _%_, _<_}
 use lib.Dec.{eqb, ltb}
-use Rattle.interrupt.specs.declared.types.IntId.{IntId}
 use Rattle.register.specs.declared.frame.AccessWidth.{AccessWidth}
 use Rattle.register.specs.declared.frame.Refusal.the-variants.{Access, Width, Vcpu}
 use Rattle.register.specs.declared.ranges.BitRegister.{BitRegister}
@@ -75,38 +74,33 @@ plain class = record { class = class; first = record { 0 = 0 }; private = false 
 abbrev pub elsewhere : DistributorAccess
 elsewhere = At (plain Other)
 
--- what `locate_distributor` hands down: an offset in the frame, and its class
-pub record Found (class : Class) (offset : ℕ) : Type 0 where
-  pub class-at : class ≡ classAt offset
-  pub in-frame : offset < 0x1000
-
 -- a width that the register does not take; "at private registers 3 comes before 2"
-unfoldable pub unfit : ℕ → DistributorAccess
-unfit offset = cond (isPrivate offset) PrivateWidth (Refused Width)
+unfoldable pub unfit : Place → DistributorAccess
+unfit place = cond (place .private) PrivateWidth (Refused Width)
 
 abbrev pub wordStart : ℕ → Bool
 wordStart offset = eqb (offset % 4) 0
 
 -- "4 bytes only"; "a start inside CTLR, TYPER, IIDR or SGIR (not at its first byte)" is another place
-unfoldable pub single : ℕ → AccessWidth → DistributorAccess
-single offset width = cond (wordStart offset) (cond (isDword width) (At (plain (classAt offset))) (Refused Width)) elsewhere
+unfoldable pub single : Class → ℕ → AccessWidth → DistributorAccess
+single class offset width = cond (wordStart offset) (cond (isDword width) (At (plain class)) (Refused Width)) elsewhere
 
 -- "4 bytes only, aligned; a narrower access that starts inside one of their words, past its first byte, is refused by 2 without a vCPU
 -- lookup"
-unfoldable pub bitWord : ℕ → AccessWidth → DistributorAccess
-bitWord offset width = cond (wordStart offset) (cond (isDword width) (At (placeAt offset)) (unfit offset)) (Refused Width)
+unfoldable pub bitWord : Place → ℕ → AccessWidth → DistributorAccess
+bitWord place offset width = cond (wordStart offset) (cond (isDword width) (At place) (unfit place)) (Refused Width)
 
 -- "widths 1, 2, 4"
-unfoldable pub byteArray : ℕ → AccessWidth → DistributorAccess
-byteArray offset width = cond (isQword width) (unfit offset) (At (placeAt offset))
+unfoldable pub byteArray : Place → AccessWidth → DistributorAccess
+byteArray place width = cond (isQword width) (unfit place) (At place)
 
 abbrev pub within : Class → ℕ → AccessWidth → DistributorAccess
-within Ctlr offset width = single offset width
-within Typer offset width = single offset width
-within Iidr offset width = single offset width
-within Sgir offset width = single offset width
-within (Bits register) offset width = bitWord offset width
-within (Bytes register) offset width = byteArray offset width
+within Ctlr offset width = single Ctlr offset width
+within Typer offset width = single Typer offset width
+within Iidr offset width = single Iidr offset width
+within Sgir offset width = single Sgir offset width
+within (Bits register) offset width = bitWord (placeAt offset) offset width
+within (Bytes register) offset width = byteArray (placeAt offset) width
 within Other offset width = elsewhere
 
 unfoldable pub locateInFrame : ℕ → AccessWidth → DistributorAccess
@@ -122,3 +116,8 @@ unfoldable pub distributorRefusal : Bool → DistributorAccess → ℕ
 distributorRefusal exists (Refused r) = refusalNumber r
 distributorRefusal exists PrivateWidth = cond exists (refusalNumber Width) (refusalNumber Vcpu)
 distributorRefusal exists (At place) = cond (not exists && place .private) (refusalNumber Vcpu) 0
+
+-- what `locate_distributor` hands down: an offset in the frame, and its class
+pub record Found (class : Class) (offset : ℕ) : Type 0 where
+  pub class-at : class ≡ classAt offset
+  pub in-frame : offset < 0x1000

@@ -1,6 +1,9 @@
 // Where an access to the Distributor falls.
 ghost use mathlib.Core.Path.{_≡_};
-ghost use Rattle.register.specs.Distributor.{bitNumbersPerByte, isPriority, numbersPerByte, isBanked, Found, placeAt, plain, unfit, single, bitWord, byteArray, locateInFrame, locateDistributor};
+ghost use Rattle.register.specs.Distributor.{bitNumbersPerByte, isPriority, Found, placeAt, plain, unfit, single, bitWord, byteArray, locateInFrame, locateDistributor};
+ghost use Prim.Native.Nat.{_-_};
+ghost use Rattle.register.specs.Ranges.{rangeAt};
+ghost use Rattle.register.specs.declared.ranges.Class.the-variants.{Bits, Bytes};
 use crate::dispatch::class_at;
 use crate::frame::AccessWidth;
 use crate::frame::Refusal;
@@ -69,56 +72,45 @@ impl ByteRegister {
     }
 }
 
-impl Class {
-    fn numbers_per_byte(self) -> u32
-        ensures { λ r. ⌜ r ≡ numbersPerByte self ⌝ }
-    {
-        match self {
-            Class::Ctlr => 0,
-            Class::Typer => 0,
-            Class::Iidr => 0,
-            Class::Sgir => 0,
-            Class::Bits(register) => register.numbers_per_byte(),
-            Class::Bytes(_) => 1,
-            Class::Other => 0,
-        }
-    }
-
-    // Each vCPU has its own of the numbers below 32.
-    fn is_banked(self) -> bool
-        ensures { λ r. ⌜ r ≡ isBanked self ⌝ }
-    {
-        match self {
-            Class::Ctlr => false,
-            Class::Typer => false,
-            Class::Iidr => false,
-            Class::Sgir => false,
-            Class::Bits(_) => true,
-            Class::Bytes(register) => register.is_priority(),
-            Class::Other => false,
-        }
-    }
-}
-
-fn place_at(class: Class, offset: u64) -> Place
+// Where a byte of the class lies behind its first.
+fn distance(class: Class, offset: u64) -> u32
     requires { ⌜ Found class offset ⌝ }
-    ensures { λ r. ⌜ r ≡ placeAt offset ⌝ }
+    ensures { λ r. ⌜ r ≡ offset - rangeAt offset .first ⌝ }
 {
     let base = class.range().first;
-    let first = (offset - base) as u32 * class.numbers_per_byte();
+    (offset - base) as u32
+}
+
+fn bit_place(register: BitRegister, offset: u64) -> Place
+    requires { ⌜ Found (Bits register) offset ⌝ }
+    ensures { λ r. ⌜ r ≡ placeAt offset ⌝ }
+{
+    let class = Class::Bits(register);
+    let first = distance(class, offset) * register.numbers_per_byte();
     Place {
         class,
         first: IntId(first),
-        private: class.is_banked() & (first < 32),
+        private: first < 32,
+    }
+}
+
+fn byte_place(register: ByteRegister, offset: u64) -> Place
+    requires { ⌜ Found (Bytes register) offset ⌝ }
+    ensures { λ r. ⌜ r ≡ placeAt offset ⌝ }
+{
+    let class = Class::Bytes(register);
+    let first = distance(class, offset);
+    Place {
+        class,
+        first: IntId(first),
+        private: register.is_priority() & (first < 32),
     }
 }
 
 // At a width that the register does not take.
-fn unfit_at(class: Class, offset: u64) -> DistributorAccess
-    requires { ⌜ Found class offset ⌝ }
-    ensures { λ r. ⌜ r ≡ unfit offset ⌝ }
+fn unfit(place: Place) -> DistributorAccess
+    ensures { λ r. ⌜ r ≡ unfit place ⌝ }
 {
-    let place = place_at(class, offset);
     if place.private {
         DistributorAccess::PrivateWidth
     } else {
@@ -127,9 +119,8 @@ fn unfit_at(class: Class, offset: u64) -> DistributorAccess
 }
 
 // Past its first byte a single register is no register.
-fn single_at(class: Class, offset: u64, width: AccessWidth) -> DistributorAccess
-    requires { ⌜ Found class offset ⌝ }
-    ensures { λ r. ⌜ r ≡ single offset width ⌝ }
+fn single(class: Class, offset: u64, width: AccessWidth) -> DistributorAccess
+    ensures { λ r. ⌜ r ≡ single class offset width ⌝ }
 {
     if offset % 4 != 0 {
         return DistributorAccess::At(Place::plain(Class::Other));
@@ -142,28 +133,26 @@ fn single_at(class: Class, offset: u64, width: AccessWidth) -> DistributorAccess
 }
 
 // A start past the first byte of a word is refused before anybody is looked up.
-fn bit_word_at(class: Class, offset: u64, width: AccessWidth) -> DistributorAccess
-    requires { ⌜ Found class offset ⌝ }
-    ensures { λ r. ⌜ r ≡ bitWord offset width ⌝ }
+fn bit_word(place: Place, offset: u64, width: AccessWidth) -> DistributorAccess
+    ensures { λ r. ⌜ r ≡ bitWord place offset width ⌝ }
 {
     if offset % 4 != 0 {
         return DistributorAccess::Refused(Refusal::Width);
     }
     if width.is_dword() {
-        DistributorAccess::At(place_at(class, offset))
+        DistributorAccess::At(place)
     } else {
-        unfit_at(class, offset)
+        unfit(place)
     }
 }
 
-fn byte_array_at(class: Class, offset: u64, width: AccessWidth) -> DistributorAccess
-    requires { ⌜ Found class offset ⌝ }
-    ensures { λ r. ⌜ r ≡ byteArray offset width ⌝ }
+fn byte_array(place: Place, width: AccessWidth) -> DistributorAccess
+    ensures { λ r. ⌜ r ≡ byteArray place width ⌝ }
 {
     if width.is_qword() {
-        unfit_at(class, offset)
+        unfit(place)
     } else {
-        DistributorAccess::At(place_at(class, offset))
+        DistributorAccess::At(place)
     }
 }
 
@@ -172,16 +161,17 @@ fn locate_in_frame(class: Class, offset: u64, width: AccessWidth) -> Distributor
     ensures { λ r. ⌜ r ≡ locateInFrame offset width ⌝ }
 {
     match class {
-        Class::Ctlr => single_at(class, offset, width),
-        Class::Typer => single_at(class, offset, width),
-        Class::Iidr => single_at(class, offset, width),
-        Class::Sgir => single_at(class, offset, width),
-        Class::Bits(_) => bit_word_at(class, offset, width),
-        Class::Bytes(_) => byte_array_at(class, offset, width),
+        Class::Ctlr => single(class, offset, width),
+        Class::Typer => single(class, offset, width),
+        Class::Iidr => single(class, offset, width),
+        Class::Sgir => single(class, offset, width),
+        Class::Bits(register) => bit_word(bit_place(register, offset), offset, width),
+        Class::Bytes(register) => byte_array(byte_place(register, offset), width),
         Class::Other => DistributorAccess::At(Place::plain(Class::Other)),
     }
 }
 
+// Decides by offset and width alone, and looks nobody up.
 pub fn locate_distributor(offset: u64, width: AccessWidth) -> DistributorAccess
     ensures { λ r. ⌜ r ≡ locateDistributor offset width ⌝ }
 {
