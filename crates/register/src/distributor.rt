@@ -72,7 +72,7 @@ impl ByteRegister {
     }
 }
 
-// Where a byte of the class lies behind its first.
+// How far an offset lies behind the first byte of its class.
 fn distance(class: Class, offset: u64) -> u32
     requires { ⌜ Found class offset ⌝ }
     ensures { λ r. ⌜ r ≡ offset - rangeAt offset .first ⌝ }
