@@ -1,7 +1,8 @@
 -- Refusals that the documents name, computed from the definitions: one list, one statement. Assumes nothing.
-use mathlib.Core.Bool.{Bool, true, false, _&&_}
+use mathlib.Core.Bool.{Bool, true, false, cond}
+use mathlib.Core.Path.{_≡_, refl}
 use mathlib.Core.List.{List, [], _∷_}
-use Prim.Native.Nat.{ℕ, _-_, _^_}
+use Prim.Native.Nat.{ℕ, zero, suc, _-_, _*_, _^_}
 use lib.Dec.{T, eqb}
 use Rattle.register.specs.declared.frame.AccessWidth.{AccessWidth}
 use Rattle.register.specs.declared.frame.AccessWidth.the-variants.{Byte, Word, Dword, Qword}
@@ -81,3 +82,15 @@ right i c = eqb (c .gives) (c .says)
 pub corners-right : T (every right 0 corners)
 unfolding corners distributorRefusal locateDistributor locateInFrame single bitWord byteArray unfit placeAt isPrivate firstNumber rangeAt rangeIn ranges interfaceRefusal locateCpuInterface registerAt registerIn registers
 corners-right = tt
+
+-- "Private registers are the first of each bit range, ICFGR's first two and priority bytes 0 to 31": no other word of the frame is
+abbrev wordsWhere : (ℕ → Bool) → ℕ → ℕ → List ℕ
+wordsWhere f k zero = []
+wordsWhere f k (suc n) = cond (f (4 * k)) (4 * k ∷ wordsWhere f (suc k) n) (wordsWhere f (suc k) n)
+
+pub private-words : wordsWhere isPrivate 0 1024
+    ≡ 0x080 ∷ 0x100 ∷ 0x180 ∷ 0x200 ∷ 0x280 ∷ 0x300 ∷ 0x380
+    ∷ 0x400 ∷ 0x404 ∷ 0x408 ∷ 0x40c ∷ 0x410 ∷ 0x414 ∷ 0x418 ∷ 0x41c
+    ∷ 0xc00 ∷ 0xc04 ∷ []
+unfolding isPrivate firstNumber rangeAt rangeIn ranges
+private-words = refl
