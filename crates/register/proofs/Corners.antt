@@ -1,15 +1,18 @@
--- Refusals that the documents name, computed from the definitions: one list, one statement. Assumes nothing.
+-- Refusals computed from the definitions: those that document 01 and its readings name, and neighbours of theirs by the same rules, in
+-- one list; and which offsets are private registers. Assumes nothing.
 use mathlib.Core.Bool.{Bool, true, false, cond}
 use mathlib.Core.Path.{_≡_, refl}
-use mathlib.Core.List.{List, [], _∷_}
-use Prim.Native.Nat.{ℕ, zero, suc, _-_, _*_, _^_}
+use mathlib.Core.List.{List, [], _∷_, _++_}
+use Prim.Native.Nat.{ℕ, zero, suc, _+_, _-_, _^_}
 use lib.Dec.{T, eqb}
 use Rattle.register.specs.declared.frame.AccessWidth.{AccessWidth}
 use Rattle.register.specs.declared.frame.AccessWidth.the-variants.{Byte, Word, Dword, Qword}
+use Rattle.register.specs.declared.distributor.DistributorAccess.{DistributorAccess}
+use Rattle.register.specs.declared.distributor.DistributorAccess.the-variants.{Refused, PrivateWidth, At}
 use Rattle.register.specs.CpuInterface.{registers, registerIn, registerAt, locateCpuInterface, interfaceRefusal}
 use Rattle.register.specs.Distributor.{firstNumber, isPrivate, placeAt, unfit, single, bitWord, byteArray, locateInFrame, locateDistributor, distributorRefusal}
 use Rattle.register.specs.Ranges.{ranges, rangeIn, rangeAt}
-use Rattle.register.proofs.Table.{every}
+use Rattle.register.proofs.Table.{every, tabulate}
 
 -- an access to the Distributor by a vCPU that exists, by one that does not, and an access to a CPU interface
 abbrev there : ℕ → AccessWidth → ℕ
@@ -21,7 +24,7 @@ nobody offset width = distributorRefusal false (locateDistributor offset width)
 abbrev interface : ℕ → AccessWidth → ℕ
 interface offset width = interfaceRefusal (locateCpuInterface offset width)
 
--- what the definitions give, and what the document says
+-- what the definitions give, and what it has to be
 pub record Corner : Type 0 where
   pub gives : ℕ
   pub says : ℕ
@@ -83,14 +86,18 @@ pub corners-right : T (every right 0 corners)
 unfolding corners distributorRefusal locateDistributor locateInFrame single bitWord byteArray unfit placeAt isPrivate firstNumber rangeAt rangeIn ranges interfaceRefusal locateCpuInterface registerAt registerIn registers
 corners-right = tt
 
--- "Private registers are the first of each bit range, ICFGR's first two and priority bytes 0 to 31": no other word of the frame is
-abbrev wordsWhere : (ℕ → Bool) → ℕ → ℕ → List ℕ
-wordsWhere f k zero = []
-wordsWhere f k (suc n) = cond (f (4 * k)) (4 * k ∷ wordsWhere f (suc k) n) (wordsWhere f (suc k) n)
+-- "Private registers are the first of each bit range, ICFGR's first two and priority bytes 0 to 31": a byte access at any offset of the
+-- frame looks up its vCPU for these and for no others
+abbrev looksUp : DistributorAccess → Bool
+looksUp (Refused r) = false
+looksUp PrivateWidth = true
+looksUp (At place) = place .private
 
-pub private-words : wordsWhere isPrivate 0 1024
-    ≡ 0x080 ∷ 0x100 ∷ 0x180 ∷ 0x200 ∷ 0x280 ∷ 0x300 ∷ 0x380
-    ∷ 0x400 ∷ 0x404 ∷ 0x408 ∷ 0x40c ∷ 0x410 ∷ 0x414 ∷ 0x418 ∷ 0x41c
-    ∷ 0xc00 ∷ 0xc04 ∷ []
-unfolding isPrivate firstNumber rangeAt rangeIn ranges
-private-words = refl
+abbrev where-passed : (ℕ → Bool) → ℕ → ℕ → List ℕ
+where-passed f k zero = []
+where-passed f k (suc n) = cond (f k) (k ∷ where-passed f (suc k) n) (where-passed f (suc k) n)
+
+pub private-registers : where-passed (λ (offset : ℕ). looksUp (locateDistributor offset Byte)) 0 0x1000
+    ≡ 0x080 ∷ 0x100 ∷ 0x180 ∷ 0x200 ∷ 0x280 ∷ 0x300 ∷ 0x380 ∷ (tabulate (λ (k : ℕ). 0x400 + k) 0 32 ++ 0xc00 ∷ 0xc04 ∷ [])
+unfolding locateDistributor locateInFrame single bitWord byteArray unfit placeAt isPrivate firstNumber rangeAt rangeIn ranges
+private-registers = refl

@@ -4,3 +4,4 @@ pub mod Corners
 pub mod Map
 pub mod Reach
 pub mod Table
+pub mod Tests

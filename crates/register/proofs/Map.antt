@@ -9,17 +9,17 @@ use native.Mathlib.Nat.{zero-add, le-of-suc-le-suc, not-suc-le-zero}
 use native.Mathlib.Omega.{arith}
 use lib.Dec.{T, leb, ltb, eqb, leb→le, ltb→lt, eqb→eq}
 use lib.ListN.{length, getD, List·getD-eq-default}
-use borrow.Author.Tests.{leb-true, leb-false, le-leb, lt-leb, ltb-true, ltb-false, lt-ltb, le-ltb}
+use borrow.Author.Tests.{ltb-true, ltb-false, le-ltb}
 use Rattle.register.specs.declared.ranges.BitRegister.{BitRegister}
 use Rattle.register.specs.declared.ranges.BitRegister.the-variants.{Igroupr, Isenabler, Icenabler, Ispendr, Icpendr, Isactiver, Icactiver, Icfgr}
-use Rattle.register.specs.declared.ranges.ByteRegister.{ByteRegister}
 use Rattle.register.specs.declared.ranges.ByteRegister.the-variants.{Ipriorityr, Itargetsr, Cpendsgir, Spendsgir}
 use Rattle.register.specs.declared.ranges.Class.{Class}
 use Rattle.register.specs.declared.ranges.Class.the-variants.{Ctlr, Typer, Iidr, Sgir, Bits, Bytes, Other}
 use Rattle.register.specs.declared.ranges.RegisterRange.{RegisterRange}
 use Rattle.register.specs.Distributor.{bitNumbersPerByte}
 use Rattle.register.specs.Ranges.{ranges, nowhere, holds, rangeIn, rangeAt, classAt, numberOf, rangeNumbered, classOf, rangeOf}
-use Rattle.register.proofs.Table.{both-left, both-right, every, at, tabulate, getD-tabulate}
+use Rattle.register.proofs.Table.{every, at, tabulate, getD-tabulate}
+use Rattle.register.proofs.Tests.{both-left, both-right, is-true, leb-same}
 
 -- no row has a number from 16 up
 pub numbered-past : (n : ℕ) → 16 ≤ n → rangeNumbered n ≡ nowhere
@@ -68,18 +68,10 @@ inWords : ℕ → RegisterRange → Bool
 inWords i r = eqb (r .first % 4) 0 && eqb (r .length % 4) 0
 
 first-word : (a o : ℕ) → a % 4 ≡ 0 → leb a (4 * (o / 4)) ≡ leb a o
-first-word a o h = go (leb a o) refl
-  where
-    go : (t : Bool) → leb a o ≡ t → leb a (4 * (o / 4)) ≡ t
-    go true e = let i : a ≤ o = leb-true a o e in le-leb a (4 * (o / 4)) (omega arith)
-    go false e = let i : o < a = leb-false a o e in lt-leb a (4 * (o / 4)) (omega arith)
+first-word a o h = leb-same a o a (4 * (o / 4)) (λ i. omega arith) (λ i. omega arith)
 
 end-word : (b o : ℕ) → b % 4 ≡ 0 → ltb (4 * (o / 4)) b ≡ ltb o b
-end-word b o h = go (ltb o b) refl
-  where
-    go : (t : Bool) → ltb o b ≡ t → ltb (4 * (o / 4)) b ≡ t
-    go true e = let i : o < b = ltb-true o b e in lt-ltb (4 * (o / 4)) b (omega arith)
-    go false e = let i : b ≤ o = ltb-false o b e in le-ltb (4 * (o / 4)) b (omega arith)
+end-word b o h = leb-same (suc o) b (suc (4 * (o / 4))) b (λ i. omega arith) (λ i. omega arith)
 
 holds-word : (r : RegisterRange) (i o : ℕ) → T (inWords i r) → holds r (4 * (o / 4)) ≡ holds r o
 unfolding inWords
@@ -122,10 +114,6 @@ held-in : (rs : List RegisterRange) (o : ℕ) → T (apart rs) → (n : ℕ) →
 unfolding rangeIn apart behind
 held-in [] o t n h hit = absurd (not-suc-le-zero h)
 held-in (r ∷ rs) o t zero h hit = simp (is-true (holds r o) hit)
-  where
-    is-true : (b : Bool) → T b → b ≡ true
-    is-true true t = refl
-    is-true false t = absurd t
 held-in (r ∷ rs) o t (suc n) h hit =
     let s = getD rs n nowhere in
     let k : n < length rs = le-of-suc-le-suc h in

@@ -1,12 +1,11 @@
 -- How far an accepted Distributor access reaches: no number past its registers, and from a private register none past 31. Assumes nothing.
 use mathlib.Core.Path.{_≡_, refl, ap, sym, subst, _∙_}
 use mathlib.Core.Bool.{Bool, true, false, cond, _&&_, true≢false}
-use mathlib.Core.List.{List, [], _∷_}
 use mathlib.Core.Logic.{_⊎_, inl, inr}
-use Prim.Native.Nat.{ℕ, suc, _+_, _-_, _*_, _%_, _≤_, _<_}
+use Prim.Native.Nat.{ℕ, _+_, _-_, _*_, _%_, _≤_, _<_}
 use native.Mathlib.Nat.{add-mul, mul-comm, mul-le-mul-right}
 use native.Mathlib.Omega.{arith}
-use lib.Dec.{T, eqb, leb, ltb, eqb→eq, leb→le, ltb→lt}
+use lib.Dec.{ltb}
 use borrow.Author.Tests.{eqb-true, ltb-true}
 use Rattle.register.specs.declared.frame.AccessWidth.{AccessWidth}
 use Rattle.register.specs.declared.frame.AccessWidth.the-variants.{Byte, Word, Dword, Qword}
@@ -20,7 +19,7 @@ use Rattle.register.specs.declared.distributor.DistributorAccess.{Distri
 use Rattle.register.specs.declared.distributor.DistributorAccess.the-variants.{Refused, PrivateWidth, At}
 use Rattle.register.specs.Distributor.{numbersPerByte, isBanked, firstNumber, isPrivate, placeAt, wordStart, unfit, single, bitWord, byteArray, within, locateInFrame, locateDistributor}
 use Rattle.register.specs.Frame.{bytes, isDword, isQword, aligned, inFrame}
-use Rattle.register.specs.Ranges.{ranges, nowhere, holds, rangeAt, classAt, rangeOf}
+use Rattle.register.specs.Ranges.{nowhere, rangeAt, classAt, rangeOf}
 use Rattle.register.proofs.Access.{in-frame-aligned}
 use Rattle.register.proofs.Map.{range-of-class, Whole, range-whole}
 

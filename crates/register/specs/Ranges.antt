@@ -1,7 +1,7 @@
 -- The Distributor's register map: IHI 0048, Table 4-1, "Distributor register map", as document 01 has it under "Distributor places".
 -- IPRIORITYR and ITARGETSR have a byte for each number below 1020, so that 0x7FC and 0xBFC belong to no register. Left out on purpose:
 -- NSACR, the identification registers and what IHI leaves to the implementer, which document 01 takes for other places.
-use mathlib.Core.Bool.{Bool, true, false, cond, _&&_}
+use mathlib.Core.Bool.{Bool, cond, _&&_}
 use mathlib.Core.List.{List, [], _∷_}
 use Prim.Native.Nat.{ℕ, _+_}
 use lib.Dec.{leb, ltb}

@@ -66,7 +66,7 @@ impl AccessWidth {
         }
     }
 
-    // By cases, since a division by a width that is not known is slow.
+    // By cases, so that each division is by a constant.
     fn aligned(self, offset: u64) -> bool
         ensures { λ r. ⌜ r ≡ aligned offset self ⌝ }
     {

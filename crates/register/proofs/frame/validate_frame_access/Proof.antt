@@ -1,22 +1,18 @@
 -- `validate_frame_access` is `inFrame`: what is compared is the room behind the offset.
-use mathlib.Core.Path.{_≡_, refl, _∙_}
-use mathlib.Core.Bool.{Bool, true, false}
-use Prim.Native.Nat.{ℕ, _+_, _-_, _≤_, _<_}
+use mathlib.Core.Path.{_≡_}
+use Prim.Native.Nat.{ℕ, _+_, _-_, _≤_}
 use native.Mathlib.Omega.{arith}
 use lib.Dec.{leb}
 use borrow.Author.Needs.{needs}
-use borrow.Author.Tests.{leb-true, leb-false, le-leb, lt-leb}
-use Rattle.register.specs.Frame.{bytes, inFrame}
+use borrow.Author.Tests.{lt-leb}
+use Rattle.register.specs.Frame.{bytes}
+use Rattle.register.proofs.Tests.{leb-same}
 use Rattle.register.proofs.frame.validate_frame_access.Statement.{statement}
 use Rattle.register.proofs.frame.validate_frame_access.Tie as tie
 
 -- the room that is left behind the offset holds the access exactly where its end is in the frame
 room : (size offset b : ℕ) → offset ≤ size → leb (offset + b) size ≡ leb b (size - offset)
-room size offset b h = go (leb b (size - offset)) refl
-  where
-    go : (t : Bool) → leb b (size - offset) ≡ t → leb (offset + b) size ≡ t
-    go true e = let i : b ≤ size - offset = leb-true b (size - offset) e in le-leb (offset + b) size (omega arith)
-    go false e = let i : size - offset < b = leb-false b (size - offset) e in lt-leb (offset + b) size (omega arith)
+room size offset b h = leb-same b (size - offset) (offset + b) size (λ i. omega arith) (λ i. omega arith)
 
 returns : tie.Need-returns
 returns c = simp (lt-leb (c .before .args .offset + bytes (c .before .args .width)) (c .before .args .size) (search needs))
