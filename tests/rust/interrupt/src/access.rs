@@ -3,6 +3,7 @@ use super::InterruptRecord;
 use crate::{IntId, Priority, TriggerMode};
 
 pub(crate) struct Start {
+    pub intid: IntId,
     pub flags: u32,
     pub trigger: TriggerMode,
     pub priority: u8,
@@ -12,7 +13,7 @@ pub(crate) struct Start {
 pub(crate) fn make(start: &Start) -> InterruptRecord {
     let set = |place: u32| start.flags >> place & 1 == 1;
     InterruptRecord {
-        intid: IntId::Spi(32),
+        intid: start.intid,
         enabled: set(0),
         pending: set(1),
         active: set(2),

@@ -1,54 +1,12 @@
 //! Prints what every transition of interrupt.rs gives on every record state, in the form of the Rattle program `interrupt_states`.
-//!
-//! The types below stand in for those that interrupt.rs imports: document 01 gives their values.
 use std::io::{self, BufWriter, Write};
 
-#[derive(Clone, Copy, Debug, PartialEq, Eq)]
-pub struct GicAffinity;
-
-#[derive(Clone, Copy, Debug, PartialEq, Eq)]
-#[allow(dead_code)] // the numbers are the type's, and no transition reads them
-pub enum IntId {
-    Sgi(u32),
-    Ppi(u32),
-    Spi(u32),
-}
-
-impl IntId {
-    fn new(raw: u32) -> Option<Self> {
-        match raw {
-            0..16 => Some(Self::Sgi(raw)),
-            16..32 => Some(Self::Ppi(raw)),
-            32..1020 => Some(Self::Spi(raw)),
-            _ => None,
-        }
-    }
-}
-
-#[derive(Clone, Copy, Debug, PartialEq, Eq)]
-pub struct Priority(u8);
-
-impl Priority {
-    pub const DEFAULT: Self = Self(0);
-}
-
-#[derive(Clone, Copy, Debug, PartialEq, Eq)]
-pub enum TriggerMode {
-    Level,
-    Edge,
-}
-
-#[derive(Clone, Copy, Debug, PartialEq, Eq)]
-pub enum InterruptState {
-    Inactive,
-    Pending,
-    Active,
-    ActivePending,
-}
+// What interrupt.rs takes from its crate's root.
+pub use types::{GicAffinity, IntId, InterruptState, Priority, TriggerMode};
 
 #[allow(dead_code)] // routes, and what only other files of the crate call
 mod file {
-    include!(concat!(env!("OUT_DIR"), "/root.rs"));
+    include!(concat!(env!("OUT_DIR"), "/interrupt_root.rs"));
     pub(crate) use interrupt::{InterruptRecord, access};
 }
 use file::{InterruptRecord, access, access::Start};
@@ -164,12 +122,12 @@ fn main() -> io::Result<()> {
             owner: '.',
         };
         match IntId::new(raw) {
-            Some(intid) => {
+            Ok(intid) => {
                 for trigger in [TriggerMode::Level, TriggerMode::Edge] {
                     row.show(&InterruptRecord::new(intid, trigger))?;
                 }
             }
-            None => write!(row.out, " none")?,
+            Err(_) => write!(row.out, " none")?,
         }
         writeln!(out)?;
     }
@@ -185,6 +143,7 @@ fn main() -> io::Result<()> {
                 TriggerMode::Edge
             };
             let start = Start {
+                intid: IntId::new(32).unwrap(),
                 flags: low % 64,
                 trigger,
                 priority,

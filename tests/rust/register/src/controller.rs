@@ -2,11 +2,12 @@
 //!
 //! There are 8 vCPUs, the SPI limit is 1020, Distributor and CPU interfaces are on, and no interrupt is ever offered.
 use crate::{
-    AccessWidth, GicVcpuId, IntId, Priority, SgiId, SgiTarget, SpiId, VgicResult, log::see, place,
+    AccessWidth, GicAffinity, GicVcpuId, IntId, Priority, SgiId, SgiTarget, SpiId, VgicResult,
+    log::see, place,
 };
 use std::{array, sync::Arc};
 
-include!(concat!(env!("OUT_DIR"), "/root.rs"));
+include!(concat!(env!("OUT_DIR"), "/v2_root.rs"));
 pub(crate) use v2::access;
 
 mod unreached;
@@ -37,7 +38,7 @@ struct State {
 struct Distributor;
 
 struct Redistributor {
-    affinity: usize,
+    affinity: GicAffinity,
     cpu: CpuInterfaceState,
 }
 
@@ -76,7 +77,7 @@ impl GicV3Controller {
         let (source, sgi) = (source.raw() as u64, sgi.raw().into());
         match targets {
             SgiTarget::Affinities(vcpus) => {
-                let mask = vcpus.iter().map(|vcpu| 1 << vcpu).sum();
+                let mask = vcpus.iter().map(|vcpu| 1 << vcpu.0).sum();
                 see("send_sgi", [source, sgi, mask]);
             }
             SgiTarget::AllExceptSelf => see("send_sgi to the others", [source, sgi]),
@@ -106,7 +107,7 @@ impl Lock {
             distributor: Distributor,
             redistributors: array::from_fn(|vcpu| {
                 let redistributor = Redistributor {
-                    affinity: vcpu,
+                    affinity: GicAffinity(vcpu),
                     cpu: CpuInterfaceState,
                 };
                 (GicVcpuId::new(vcpu), redistributor)
@@ -211,7 +212,7 @@ impl Redistributor {
         place::test(offset, width, "write").map(|()| Vec::new())
     }
 
-    fn affinity(&self) -> usize {
+    fn affinity(&self) -> GicAffinity {
         self.affinity
     }
 

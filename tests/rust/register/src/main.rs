@@ -8,23 +8,20 @@ extern crate self as axvm_types;
 mod controller;
 mod log;
 mod place;
-mod register;
 mod served;
 mod tokens;
-mod types;
 
 // What v2.rs takes from its crate's root.
 pub use controller::{CpuInterfaceState, backend_result};
 pub use types::{
-    AccessWidth, GicVcpuId, IntId, InterruptState, Priority, RegisterRegion, SgiId, SgiTarget,
-    SpiId, VgicError, VgicResult,
+    AccessWidth, GicAffinity, GicVcpuId, IntId, InterruptState, Priority, RegisterRegion, SgiId,
+    SgiTarget, SpiId, VgicError, VgicResult, register,
 };
 
 use std::io::{self, BufWriter, Write};
 use tokens::Access;
 
 fn main() -> io::Result<()> {
-    use AccessWidth::{Byte, Dword, Qword, Word};
     let mut out = BufWriter::new(io::stdout().lock());
     let mut accesses = [0; 2];
     for (letter, region, size) in [
@@ -40,7 +37,7 @@ fn main() -> io::Result<()> {
         for place in runs.into_iter().flat_map(|run| run.step_by(4)) {
             write!(out, "{letter} {place}")?;
             for offset in place..=place + 3 {
-                for width in [Byte, Word, Dword, Qword] {
+                for width in AccessWidth::ALL {
                     let token = Access {
                         region,
                         offset,

@@ -3,8 +3,7 @@ use crate::{
     AccessWidth, GicVcpuId, RegisterRegion, VgicError, VgicResult,
     controller::{GicV3Controller, access},
     log::{self, Call},
-    place::Place,
-    served,
+    place, served,
 };
 
 /// The vCPU that makes every access.
@@ -86,7 +85,7 @@ impl Access {
         let text = match (&way, answer) {
             (Way::Own, Ok(value)) => served::name(self, value, read, write)?,
             (Way::Own, Err(_)) if !(read.is_empty() && write.is_empty()) => return None,
-            (_, Ok(_)) => Place::at(self.offset).to_string(),
+            (_, Ok(_)) => place::show(self.offset),
             (_, Err(number)) => number.to_string(),
         };
         let prefix = if way == Way::Private { "own:" } else { "" };

@@ -1,4 +1,5 @@
-//! The numbers, names and errors that v2.rs imports: document 01 gives their values.
+//! The numbers, names and errors that the two Rust files import: document 01 gives their values.
+pub mod register;
 
 #[derive(Clone, Copy, Debug, PartialEq, Eq)]
 pub enum AccessWidth {
@@ -9,6 +10,8 @@ pub enum AccessWidth {
 }
 
 impl AccessWidth {
+    pub const ALL: [Self; 4] = [Self::Byte, Self::Word, Self::Dword, Self::Qword];
+
     pub fn size(self) -> usize {
         self as usize
     }
@@ -38,6 +41,12 @@ pub enum VgicError {
     },
     /// Ours: a number that does not decode.
     NoInterrupt(u32),
+    /// Ours: a stand-in's register does not allow the width.
+    Width,
+    /// Ours: the vCPU was looked up and is not there.
+    NoVcpu(GicVcpuId),
+    /// Ours: a device's number is no PPI and no SPI below the limit.
+    NoInput(u64),
 }
 
 #[derive(Clone, Copy, Debug, PartialEq, Eq)]
@@ -52,6 +61,10 @@ impl GicVcpuId {
         self.0
     }
 }
+
+/// An affinity is here the vCPU's number.
+#[derive(Clone, Copy, Debug, PartialEq, Eq)]
+pub struct GicAffinity(pub usize);
 
 #[derive(Clone, Copy, Debug, PartialEq, Eq)]
 pub struct SgiId(u8);
@@ -110,24 +123,35 @@ impl IntId {
     }
 }
 
-#[derive(Clone, Copy)]
+#[derive(Clone, Copy, Debug, PartialEq, Eq, PartialOrd, Ord)]
 pub struct Priority(pub u8);
 
 impl Priority {
+    pub const DEFAULT: Self = Self(0);
+    /// The running priority while nothing is served.
+    pub const IDLE: Self = Self(255);
+
     pub fn raw(self) -> u8 {
         self.0
     }
 }
 
-#[derive(Clone, Copy)]
+#[derive(Clone, Copy, Debug, PartialEq, Eq)]
+pub enum TriggerMode {
+    Level,
+    Edge,
+}
+
+#[derive(Clone, Copy, Debug, PartialEq, Eq)]
 pub enum InterruptState {
+    Inactive,
+    Pending,
     Active,
     ActivePending,
 }
 
-/// An affinity is here the vCPU's number.
 pub enum SgiTarget {
-    Affinities(Vec<usize>),
+    Affinities(Vec<GicAffinity>),
     AllExceptSelf,
     SelfOnly,
 }
