@@ -1,42 +1,49 @@
-//! Below interrupt.rs: makes a record in any state, and reads the three flags that it has no accessor for.
+//! Below interrupt.rs: a record's fields, to make a record in any state and to read the flags that it has no accessor for.
 use super::InterruptRecord;
 use crate::{IntId, Priority, TriggerMode};
 
-pub(crate) struct Start {
+/// Everything but the route, which is left out.
+#[derive(Clone, Copy, PartialEq, Eq)]
+pub(crate) struct Parts {
     pub intid: IntId,
-    pub flags: u32,
-    pub trigger: TriggerMode,
-    pub priority: u8,
-    pub mask: Option<u8>,
-}
-
-pub(crate) fn make(start: &Start) -> InterruptRecord {
-    let set = |place: u32| start.flags >> place & 1 == 1;
-    InterruptRecord {
-        intid: start.intid,
-        enabled: set(0),
-        pending: set(1),
-        active: set(2),
-        inflight: set(3),
-        redelivery_pending: set(4),
-        line_asserted: set(5),
-        priority: Priority(start.priority),
-        trigger: start.trigger,
-        route: None,
-        cpu_target_mask: start.mask,
-    }
-}
-
-pub(crate) struct Hidden {
+    pub enabled: bool,
+    pub pending: bool,
+    pub active: bool,
     pub inflight: bool,
     pub redelivery_pending: bool,
     pub line_asserted: bool,
+    pub priority: Priority,
+    pub trigger: TriggerMode,
+    pub cpu_target_mask: Option<u8>,
 }
 
-pub(crate) fn hidden(record: &InterruptRecord) -> Hidden {
-    Hidden {
+pub(crate) fn make(parts: &Parts) -> InterruptRecord {
+    InterruptRecord {
+        intid: parts.intid,
+        enabled: parts.enabled,
+        pending: parts.pending,
+        active: parts.active,
+        inflight: parts.inflight,
+        redelivery_pending: parts.redelivery_pending,
+        line_asserted: parts.line_asserted,
+        priority: parts.priority,
+        trigger: parts.trigger,
+        route: None,
+        cpu_target_mask: parts.cpu_target_mask,
+    }
+}
+
+pub(crate) fn parts(record: &InterruptRecord) -> Parts {
+    Parts {
+        intid: record.intid,
+        enabled: record.enabled,
+        pending: record.pending,
+        active: record.active,
         inflight: record.inflight,
         redelivery_pending: record.redelivery_pending,
         line_asserted: record.line_asserted,
+        priority: record.priority,
+        trigger: record.trigger,
+        cpu_target_mask: record.cpu_target_mask,
     }
 }

@@ -9,7 +9,7 @@ mod file {
     include!(concat!(env!("OUT_DIR"), "/interrupt_root.rs"));
     pub(crate) use interrupt::{InterruptRecord, access};
 }
-use file::{InterruptRecord, access, access::Start};
+use file::{InterruptRecord, access, access::Parts};
 
 /// One line of results. The Rust has no owner in the record: what the line starts with stays.
 struct Row<'a, W: Write> {
@@ -19,7 +19,7 @@ struct Row<'a, W: Write> {
 
 impl<W: Write> Row<'_, W> {
     fn show(&mut self, record: &InterruptRecord) -> io::Result<()> {
-        let hidden = access::hidden(record);
+        let parts = access::parts(record);
         let flag = |set: bool, letter: char| if set { letter } else { '-' };
         let mask = record
             .cpu_target_mask()
@@ -30,9 +30,9 @@ impl<W: Write> Row<'_, W> {
             flag(record.enabled(), 'E'),
             flag(record.pending(), 'P'),
             flag(record.active(), 'A'),
-            flag(hidden.inflight, 'I'),
-            flag(hidden.redelivery_pending, 'R'),
-            flag(hidden.line_asserted, 'L'),
+            flag(parts.inflight, 'I'),
+            flag(parts.redelivery_pending, 'R'),
+            flag(parts.line_asserted, 'L'),
             if record.trigger() == TriggerMode::Level {
                 'l'
             } else {
@@ -46,7 +46,7 @@ impl<W: Write> Row<'_, W> {
     /// The record after `change`, made anew from `start`.
     fn after(
         &mut self,
-        start: &Start,
+        start: &Parts,
         change: impl FnOnce(&mut InterruptRecord),
     ) -> io::Result<()> {
         let mut record = access::make(start);
@@ -62,7 +62,7 @@ impl<W: Write> Row<'_, W> {
         write!(self.out, " {state:?}")
     }
 
-    fn all(&mut self, start: &Start) -> io::Result<()> {
+    fn all(&mut self, start: &Parts) -> io::Result<()> {
         use InterruptState::{Active, ActivePending, Inactive, Pending};
         let states = [Inactive, Pending, Active, ActivePending];
         let record = access::make(start);
@@ -137,17 +137,22 @@ fn main() -> io::Result<()> {
         (0xff, Some(0xa5), '7'),
     ] {
         for low in 0..128 {
-            let trigger = if low < 64 {
-                TriggerMode::Level
-            } else {
-                TriggerMode::Edge
-            };
-            let start = Start {
+            let set = |place: u32| low >> place & 1 == 1;
+            let start = Parts {
                 intid: IntId::new(32).unwrap(),
-                flags: low % 64,
-                trigger,
-                priority,
-                mask,
+                enabled: set(0),
+                pending: set(1),
+                active: set(2),
+                inflight: set(3),
+                redelivery_pending: set(4),
+                line_asserted: set(5),
+                priority: Priority(priority),
+                trigger: if set(6) {
+                    TriggerMode::Edge
+                } else {
+                    TriggerMode::Level
+                },
+                cpu_target_mask: mask,
             };
             Row {
                 out: &mut out,

@@ -25,3 +25,47 @@ pub fn with_access(text: &str, below: &str) -> String {
     let access = PathBuf::from(env::var("CARGO_MANIFEST_DIR").unwrap()).join(below);
     format!("{text}\n#[path = {access:?}]\npub(crate) mod access;\n")
 }
+
+/// `text` with `lines` put before its only occurrence of `place`, which must stand in the function `name`.
+pub fn patched(text: &str, name: &str, place: &str, lines: &str) -> Result<String, String> {
+    let only = |what: &str| match text.matches(what).count() {
+        1 => Ok(text.find(what).unwrap()),
+        n => Err(format!("{what:?} stands there {n} times, not once")),
+    };
+    let start = only(&format!("fn {name}("))?;
+    let at = only(place)?;
+    let inside = at > start && !text[start + 3..at].contains("fn ");
+    if !inside {
+        return Err(format!("{place:?} does not stand in {name}"));
+    }
+    Ok(format!("{}{lines}{}", &text[..at], &text[at..]))
+}
+
+#[cfg(test)]
+mod tests {
+    use super::patched;
+
+    const TEXT: &str = "fn a() {\n    x();\n}\n\nfn b() {\n    y();\n    z();\n}\n";
+
+    #[test]
+    fn goes_before_the_place() {
+        let whole = patched(TEXT, "b", "    z();\n", "    // ours\n").unwrap();
+        assert_eq!(whole, TEXT.replace("    z();", "    // ours\n    z();"));
+    }
+
+    #[test]
+    fn refuses_another_text() {
+        for (name, place) in [
+            ("b", "    w();\n"), // not there
+            ("c", "    z();\n"), // no such function
+            ("b", "    x();\n"), // before the function
+            ("a", "    z();\n"), // after it
+            ("b", "();\n"),      // more than once
+        ] {
+            assert!(
+                patched(TEXT, name, place, "// ours\n").is_err(),
+                "{name} {place}"
+            );
+        }
+    }
+}

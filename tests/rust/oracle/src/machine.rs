@@ -1,0 +1,226 @@
+//! Calls of the running files, answered by document 01's numbers.
+use crate::{
+    AccessWidth, GicV3Controller, GicVcpuId, RegisterRegion, VgicError, VgicResult,
+    register::{GICC_AIAR, GICC_IAR},
+};
+use std::{error::Error, fmt, sync::OnceLock};
+
+#[cfg(test)]
+mod tests;
+
+pub const SPURIOUS: u32 = 1023;
+
+#[derive(Clone, Copy, Debug, PartialEq, Eq)]
+pub enum Call {
+    Setup {
+        count: u64,
+        limit: u64,
+    },
+    Read {
+        region: RegisterRegion,
+        vcpu: u64,
+        offset: u64,
+        width: AccessWidth,
+    },
+    Write {
+        region: RegisterRegion,
+        vcpu: u64,
+        offset: u64,
+        width: AccessWidth,
+        value: u64,
+    },
+    SetLevel {
+        vcpu: u64,
+        number: u64,
+        asserted: bool,
+    },
+    Pulse {
+        vcpu: u64,
+        number: u64,
+    },
+}
+
+#[derive(Clone, Copy, Debug, PartialEq, Eq)]
+pub struct Answer {
+    pub refusal: u8,
+    pub value: u64,
+    pub wake: u8,
+    pub retired: u32,
+}
+
+/// What the oracle found wrong with itself: its answers are not to be trusted.
+#[derive(Debug)]
+pub struct Fault(String);
+
+#[derive(Default)]
+pub struct Machine {
+    controller: Option<GicV3Controller>,
+}
+
+impl Answer {
+    const OK: Self = Self::refused(0);
+
+    const fn refused(refusal: u8) -> Self {
+        Self {
+            refusal,
+            value: 0,
+            wake: 0,
+            retired: SPURIOUS,
+        }
+    }
+}
+
+impl Call {
+    fn is_read(&self) -> bool {
+        matches!(self, Self::Read { .. })
+    }
+
+    /// Every read but an acknowledge.
+    fn is_plain_read(&self) -> bool {
+        match *self {
+            Self::Read { region, offset, .. } => {
+                region == RegisterRegion::Distributor || ![GICC_IAR, GICC_AIAR].contains(&offset)
+            }
+            _ => false,
+        }
+    }
+}
+
+impl Machine {
+    pub fn call(&mut self, call: &Call) -> Result<Answer, Fault> {
+        if let Call::Setup { count, limit } = *call {
+            return Ok(self.setup(count, limit));
+        }
+        let Some(gic) = &self.controller else {
+            return Ok(Answer::refused(6));
+        };
+        let before = gic.clone();
+        let outcome = perform(gic, call);
+        settle(call, outcome, &before, gic)
+    }
+
+    /// A refused setup keeps the earlier state. The oracle lends its own state, which is never too short.
+    fn setup(&mut self, count: u64, limit: u64) -> Answer {
+        if !(1..=8).contains(&count) || !(32..=1020).contains(&limit) {
+            return Answer::refused(4);
+        }
+        self.controller = Some(GicV3Controller::new(count as usize, limit as u32));
+        Answer::OK
+    }
+
+    pub fn controller(&self) -> Option<&GicV3Controller> {
+        self.controller.as_ref()
+    }
+}
+
+/// The value read, 0 for all else.
+fn perform(gic: &GicV3Controller, call: &Call) -> VgicResult<u64> {
+    use RegisterRegion::{CpuInterface, Distributor};
+    let id = |vcpu: u64| GicVcpuId::new(usize::try_from(vcpu).unwrap_or(usize::MAX));
+    match *call {
+        Call::Setup { .. } => unreachable!("a call of no controller"),
+        Call::Read {
+            region,
+            vcpu,
+            offset,
+            width,
+        } => match region {
+            Distributor => gic.read_v2_distributor(id(vcpu), offset, width),
+            CpuInterface => gic.read_v2_cpu_interface(id(vcpu), offset, width),
+        },
+        Call::Write {
+            region,
+            vcpu,
+            offset,
+            width,
+            value,
+        } => match region {
+            Distributor => gic.write_v2_distributor(id(vcpu), offset, width, value),
+            CpuInterface => gic.write_v2_cpu_interface(id(vcpu), offset, width, value),
+        }
+        .map(|()| 0),
+        Call::SetLevel {
+            vcpu,
+            number,
+            asserted,
+        } => gic.set_level(id(vcpu), number, asserted).map(|()| 0),
+        Call::Pulse { vcpu, number } => gic.pulse(id(vcpu), number).map(|()| 0),
+    }
+}
+
+/// The answer, unless a refused call or a plain read has changed something.
+fn settle(
+    call: &Call,
+    outcome: VgicResult<u64>,
+    before: &GicV3Controller,
+    after: &GicV3Controller,
+) -> Result<Answer, Fault> {
+    let retired = after.take_retired();
+    let unchanged = *after.state() == *before.state() && retired.is_none();
+    if !unchanged && (outcome.is_err() || call.is_plain_read()) {
+        return Err(Fault(format!(
+            "{call:?} has changed the state, and was answered {outcome:?}"
+        )));
+    }
+    Ok(match outcome {
+        Err(error) => Answer::refused(refusal(&error)?),
+        Ok(value) => Answer {
+            value,
+            wake: if call.is_read() {
+                0
+            } else {
+                wake_set(before, after)
+            },
+            retired: retired.map_or(SPURIOUS, |intid| intid.raw()),
+            ..Answer::OK
+        },
+    })
+}
+
+/// Document 01's wake set: an IAR read would have given 1023 before, and gives another number now.
+fn wake_set(before: &GicV3Controller, after: &GicV3Controller) -> u8 {
+    let spurious = u64::from(SPURIOUS);
+    (0..after.vcpu_count())
+        .filter(|&vcpu| try_acknowledge(before, vcpu) == Some(spurious))
+        .filter(|&vcpu| try_acknowledge(after, vcpu).is_some_and(|number| number != spurious))
+        .fold(0, |set, vcpu| set | 1 << vcpu)
+}
+
+/// What an IAR read by this vCPU would give, tried on a copy; no number where it would be refused (by 7).
+fn try_acknowledge(gic: &GicV3Controller, vcpu: usize) -> Option<u64> {
+    gic.clone()
+        .read_v2_cpu_interface(GicVcpuId::new(vcpu), GICC_IAR, AccessWidth::Dword)
+        .ok()
+}
+
+/// Document 01's number of an error.
+fn refusal(error: &VgicError) -> Result<u8, Fault> {
+    match error {
+        VgicError::InvalidAccess { detail, .. } if detail == outside_the_frame() => Ok(1),
+        VgicError::InvalidAccess { .. } | VgicError::Width => Ok(2),
+        VgicError::NoVcpu(_) => Ok(3),
+        VgicError::InvalidStateTransition { .. } => Ok(7),
+        VgicError::NoInput(_) => Ok(8),
+        VgicError::NoInterrupt(_) => Err(Fault(format!("{error:?} came through"))),
+    }
+}
+
+/// What v2.rs says of an access outside the frame: by this its refusals by 1 are told from those by 2.
+fn outside_the_frame() -> &'static str {
+    static DETAIL: OnceLock<String> = OnceLock::new();
+    DETAIL.get_or_init(|| {
+        let (vcpu, width) = (GicVcpuId::new(0), AccessWidth::Dword);
+        match GicV3Controller::new(1, 32).read_v2_cpu_interface(vcpu, 0x2000, width) {
+            Err(VgicError::InvalidAccess { detail, .. }) => detail,
+            other => panic!("an access outside the frame: {other:?}"),
+        }
+    })
+}
+
+impl fmt::Display for Fault {
+    fn fmt(&self, f: &mut fmt::Formatter) -> fmt::Result {
+        f.write_str(&self.0)
+    }
+}
+
+impl Error for Fault {}

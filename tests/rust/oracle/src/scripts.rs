@@ -1,0 +1,78 @@
+//! Random histories that do something: a few interrupts that nest and collide, mostly by the rules, now and then against every one.
+//!
+//! A script is a row of scenes. Each begins with an `n` line and a boot like a guest's, and then takes steps. The scripts' own machine
+//! answers each line as it is made, so that what was acknowledged can be ended in order, out of order, or cancelled.
+mod random;
+mod scene;
+mod spoil;
+mod steps;
+#[cfg(test)]
+mod tests;
+
+use crate::{
+    lines,
+    machine::{Answer, Call, Machine},
+};
+use random::Random;
+use scene::Scene;
+use std::collections::VecDeque;
+
+/// Lines without end; the same seed gives the same ones.
+pub struct Scripts {
+    random: Random,
+    machine: Machine,
+    scene: Scene,
+    /// Lines that are made and not yet given.
+    ready: VecDeque<Vec<u8>>,
+}
+
+impl Scripts {
+    pub fn new(seed: u64) -> Self {
+        let mut random = Random::new(seed);
+        let scene = Scene::before_setup(&mut random);
+        Self {
+            random,
+            machine: Machine::default(),
+            scene,
+            ready: VecDeque::new(),
+        }
+    }
+
+    /// The next line and, if it is a call, what it was answered.
+    fn play(&mut self) -> (Vec<u8>, Option<(Call, Answer)>) {
+        while self.ready.is_empty() {
+            self.refill();
+        }
+        let line = self.ready.pop_front().expect("refilled");
+        let answered = lines::parse(&line).map(|call| {
+            let answer = self
+                .machine
+                .call(&call)
+                .unwrap_or_else(|fault| panic!("{fault}"));
+            self.scene.see(&call, &answer);
+            (call, answer)
+        });
+        (line, answered)
+    }
+
+    fn refill(&mut self) {
+        let calls = if self.scene.is_over() {
+            self.scene = Scene::new(&mut self.random);
+            self.scene.boot(&mut self.random)
+        } else {
+            steps::next(&mut self.scene, &mut self.random)
+        };
+        for call in calls {
+            let lines = spoil::lines(&mut self.random, &self.scene, call);
+            self.ready.extend(lines);
+        }
+    }
+}
+
+impl Iterator for Scripts {
+    type Item = Vec<u8>;
+
+    fn next(&mut self) -> Option<Vec<u8>> {
+        Some(self.play().0)
+    }
+}

@@ -1,0 +1,354 @@
+//! The steps of a history: what guests and devices do, and what they should not.
+use super::{
+    random::Random,
+    scene::{Scene, read, write},
+};
+use crate::{
+    AccessWidth::{self, Byte, Dword, Word},
+    RegisterRegion::{CpuInterface, Distributor},
+    machine::Call,
+    register::*,
+};
+
+type Step = fn(&Scene, &mut Random) -> Vec<Call>;
+
+const STEPS: &[(u64, Step)] = &[
+    (20, acknowledge),
+    (5, nest),
+    (14, end),
+    (8, deactivate),
+    (16, ring),
+    (16, input),
+    (5, look),
+    (4, mask),
+    (5, priority),
+    (4, target),
+    (8, bits),
+    (4, cancel),
+    (4, sources),
+    (4, switch),
+    (5, inspect),
+    (4, sweep),
+    (4, revive),
+];
+
+/// Every register of the Distributor, each bit and byte range by its first one.
+pub const DISTRIBUTOR: [u64; 16] = [
+    GICD_CTLR,
+    GICD_TYPER,
+    GICD_IIDR,
+    GICD_IGROUPR,
+    GICD_ISENABLER,
+    GICD_ICENABLER,
+    GICD_ISPENDR,
+    GICD_ICPENDR,
+    GICD_ISACTIVER,
+    GICD_ICACTIVER,
+    GICD_IPRIORITYR,
+    GICD_ITARGETSR,
+    GICD_ICFGR,
+    GICD_SGIR,
+    GICD_CPENDSGIR,
+    GICD_SPENDSGIR,
+];
+
+pub const CPU_INTERFACE: [u64; 14] = [
+    GICC_CTLR,
+    GICC_PMR,
+    GICC_BPR,
+    GICC_IAR,
+    GICC_EOIR,
+    GICC_RPR,
+    GICC_HPPIR,
+    GICC_ABPR,
+    GICC_AIAR,
+    GICC_AEOIR,
+    GICC_AHPPIR,
+    GICC_APR,
+    GICC_IIDR,
+    GICC_DIR,
+];
+
+pub fn next(scene: &mut Scene, random: &mut Random) -> Vec<Call> {
+    scene.take_step();
+    random.weighed(STEPS)(scene, random)
+}
+
+fn acknowledge(scene: &Scene, random: &mut Random) -> Vec<Call> {
+    let register = random.pick(&[GICC_IAR, GICC_IAR, GICC_IAR, GICC_AIAR]);
+    vec![read(CpuInterface, scene.vcpu(random), register, Dword)]
+}
+
+/// Something more urgent comes to a vCPU that is serving, and is taken.
+fn nest(scene: &Scene, random: &mut Random) -> Vec<Call> {
+    let (vcpu, number) = (scene.one_with(&scene.held, random), scene.interrupt(random));
+    let depth = scene.held[vcpu as usize].len() as u64;
+    let priority = 0x80 >> depth.min(8);
+    let pend = if number < 16 {
+        write(Distributor, vcpu, GICD_SGIR, Dword, 2 << 24 | number)
+    } else {
+        Call::Pulse { vcpu, number }
+    };
+    vec![
+        write(Distributor, vcpu, GICD_IPRIORITYR + number, Byte, priority),
+        pend,
+        read(CpuInterface, vcpu, GICC_IAR, Dword),
+    ]
+}
+
+/// EOIR: mostly of the newest, at times of an older one, or of what nobody serves.
+fn end(scene: &Scene, random: &mut Random) -> Vec<Call> {
+    let vcpu = scene.one_with(&scene.held, random);
+    let held = &scene.held[vcpu as usize];
+    if held.is_empty() && random.percent(80) {
+        return acknowledge(scene, random);
+    }
+    let number = match (random.below(20), held.last()) {
+        (0..14, Some(&newest)) => newest,
+        (14..18, Some(_)) => random.pick(held),
+        _ => wild_number(scene, random),
+    };
+    let register = random.pick(&[GICC_EOIR, GICC_EOIR, GICC_EOIR, GICC_AEOIR]);
+    vec![write(CpuInterface, vcpu, register, Dword, number)]
+}
+
+fn deactivate(scene: &Scene, random: &mut Random) -> Vec<Call> {
+    let vcpu = scene.one_with(&scene.dropped, random);
+    let (held, dropped) = (&scene.held[vcpu as usize], &scene.dropped[vcpu as usize]);
+    let number = match (random.below(10), dropped.last(), held.last()) {
+        (0..6, Some(&number), _) | (6..8, _, Some(&number)) => number,
+        (8, _, Some(_)) => random.pick(held),
+        _ => wild_number(scene, random),
+    };
+    vec![write(CpuInterface, vcpu, GICC_DIR, Dword, number)]
+}
+
+/// Any number that EOIR and DIR may be given: of the scene, from the limit up, undecodable, with a source or with higher bits.
+fn wild_number(scene: &Scene, random: &mut Random) -> u64 {
+    let number = match random.below(6) {
+        0..3 => scene.interrupt(random),
+        3 => scene.limit.min(1019),
+        4 => 1018 + random.below(6),
+        _ => random.below(1024),
+    };
+    number + 1024 * random.pick(&[0, 0, 1, 7, 0xf_ffff])
+}
+
+/// SGIR: often several vCPUs ring the same SGI at the same target.
+fn ring(scene: &Scene, random: &mut Random) -> Vec<Call> {
+    let sgi = random.pick(&scene.sgis);
+    let targets = scene.targets(random);
+    let filter = random.weighed(&[(14, 0), (3, 1), (3, 2), (1, 3)]);
+    let value = filter << 24 | targets << 16 | sgi;
+    let ringers = random.pick(&[1, 1, 2, 3]);
+    (0..ringers)
+        .map(|_| {
+            let sender = random.below(scene.count);
+            write(Distributor, sender, GICD_SGIR, Dword, value)
+        })
+        .collect()
+}
+
+/// Device inputs, half of them at what is being served.
+fn input(scene: &Scene, random: &mut Random) -> Vec<Call> {
+    let vcpu = scene.vcpu(random);
+    let served = scene.held[vcpu as usize]
+        .iter()
+        .filter(|it| **it >= 16)
+        .copied();
+    let served: Vec<u64> = served.filter(|it| *it < 1024).collect();
+    let number = if served.is_empty() || random.percent(50) {
+        random.pick(&scene.inputs)
+    } else {
+        random.pick(&served)
+    };
+    let line = |asserted| Call::SetLevel {
+        vcpu,
+        number,
+        asserted,
+    };
+    match random.below(10) {
+        0..4 => vec![Call::Pulse { vcpu, number }],
+        4..7 => vec![line(true)],
+        7..9 => vec![line(false)],
+        _ => vec![line(true), line(false)],
+    }
+}
+
+fn look(scene: &Scene, random: &mut Random) -> Vec<Call> {
+    let register = random.pick(&[
+        GICC_HPPIR,
+        GICC_AHPPIR,
+        GICC_RPR,
+        GICC_RPR,
+        GICC_CTLR,
+        GICC_PMR,
+        GICC_BPR,
+    ]);
+    vec![read(CpuInterface, scene.vcpu(random), register, Dword)]
+}
+
+/// PMR, while things are pending and served; at times the binary point, which is for show.
+fn mask(scene: &Scene, random: &mut Random) -> Vec<Call> {
+    let register = random.pick(&[GICC_PMR, GICC_PMR, GICC_PMR, GICC_PMR, GICC_BPR, GICC_ABPR]);
+    let value = random.pick(&[255, 255, 255, 0xf0, 0x80, 0x7f, 0x21, 1, 0]);
+    vec![write(
+        CpuInterface,
+        scene.vcpu(random),
+        register,
+        Dword,
+        value,
+    )]
+}
+
+/// An aligned access of 1, 2 or 4 bytes that takes in this byte.
+fn around(byte: u64, random: &mut Random) -> (u64, AccessWidth) {
+    let width = random.pick(&[Byte, Byte, Word, Dword]);
+    (byte - byte % width.size() as u64, width)
+}
+
+fn priority(scene: &Scene, random: &mut Random) -> Vec<Call> {
+    let (offset, width) = around(GICD_IPRIORITYR + scene.interrupt(random), random);
+    let value = (0..4).fold(0, |value, _| value << 8 | scene.priority(random));
+    vec![write(Distributor, scene.vcpu(random), offset, width, value)]
+}
+
+/// Targets move while their interrupts are pending and active.
+fn target(scene: &Scene, random: &mut Random) -> Vec<Call> {
+    let (offset, width) = around(GICD_ITARGETSR + random.pick(&scene.inputs), random);
+    let value = (0..4).fold(0, |value, _| value << 8 | scene.targets(random));
+    vec![write(Distributor, scene.vcpu(random), offset, width, value)]
+}
+
+fn bits(scene: &Scene, random: &mut Random) -> Vec<Call> {
+    let number = scene.interrupt(random);
+    let register = random.weighed(&[
+        (6, GICD_ISENABLER),
+        (1, GICD_ICENABLER),
+        (4, GICD_ISPENDR),
+        (2, GICD_ICPENDR),
+        (1, GICD_ISACTIVER),
+        (2, GICD_ICACTIVER),
+        (1, GICD_IGROUPR),
+        (3, GICD_ICFGR),
+    ]);
+    let others = match random.below(6) {
+        0 => random.number() & random.number(),
+        1 => u64::MAX,
+        _ => 0,
+    };
+    let (word, bit) = if register == GICD_ICFGR {
+        (number / 16, random.pick(&[0, 2]) << (number % 16 * 2))
+    } else {
+        (number / 32, 1 << (number % 32))
+    };
+    vec![write(
+        Distributor,
+        scene.vcpu(random),
+        register + 4 * word,
+        Dword,
+        bit | others,
+    )]
+}
+
+/// ICACTIVER on what is in flight, here or at another vCPU.
+fn cancel(scene: &Scene, random: &mut Random) -> Vec<Call> {
+    let vcpu = scene.vcpu(random);
+    let server = scene.vcpu(random) as usize;
+    let Some(number) = scene.held[server].last().map(|it| it % 1024) else {
+        return vec![];
+    };
+    let offset = GICD_ICACTIVER + number / 32 * 4;
+    vec![write(Distributor, vcpu, offset, Dword, 1 << (number % 32))]
+}
+
+/// CPENDSGIR and SPENDSGIR, also with zero bytes and with sources that do not exist.
+fn sources(scene: &Scene, random: &mut Random) -> Vec<Call> {
+    let bank = random.pick(&[GICD_CPENDSGIR, GICD_SPENDSGIR]);
+    let (offset, width) = around(bank + random.pick(&scene.sgis), random);
+    let byte = |random: &mut Random| match random.below(4) {
+        0 => 0,
+        1 => random.below(256),
+        _ => 1 << random.below(scene.count),
+    };
+    let value = (0..4).fold(0, |value, _| value << 8 | byte(random));
+    let vcpu = scene.vcpu(random);
+    vec![
+        write(Distributor, vcpu, offset, width, value),
+        read(Distributor, vcpu, offset, width),
+    ]
+}
+
+/// Distributor or interface off, a look at it, and mostly on again; or another EOI mode.
+fn switch(scene: &Scene, random: &mut Random) -> Vec<Call> {
+    let vcpu = scene.vcpu(random);
+    let look = random.pick(&[GICC_IAR, GICC_HPPIR, GICC_RPR]);
+    let look = read(CpuInterface, vcpu, look, Dword);
+    let on = random.pick(&[1, 0x201]);
+    let (off, on) = match random.below(5) {
+        0 => (
+            write(Distributor, vcpu, GICD_CTLR, Dword, 0),
+            write(Distributor, vcpu, GICD_CTLR, Dword, 1),
+        ),
+        1 => (
+            write(CpuInterface, vcpu, GICC_CTLR, Dword, 0),
+            write(CpuInterface, vcpu, GICC_CTLR, Dword, on),
+        ),
+        _ => return vec![write(CpuInterface, vcpu, GICC_CTLR, Dword, on)],
+    };
+    if random.percent(85) {
+        vec![off, look, on]
+    } else {
+        vec![off, look]
+    }
+}
+
+/// Reads of the registers that the scene's interrupts stand in.
+fn inspect(scene: &Scene, random: &mut Random) -> Vec<Call> {
+    let (vcpu, number) = (scene.vcpu(random), scene.interrupt(random));
+    let register = random.pick(&DISTRIBUTOR);
+    let (offset, width) = match register {
+        GICD_IPRIORITYR | GICD_ITARGETSR => around(register + number, random),
+        GICD_CPENDSGIR | GICD_SPENDSGIR => around(register + number % 16, random),
+        GICD_ICFGR => (register + number / 16 * 4, Dword),
+        GICD_CTLR | GICD_TYPER | GICD_IIDR | GICD_SGIR => (register, Dword),
+        _ => (register + number / 32 * 4, Dword),
+    };
+    vec![read(Distributor, vcpu, offset, width)]
+}
+
+/// Every register at every width, and the places between and behind them.
+fn sweep(scene: &Scene, random: &mut Random) -> Vec<Call> {
+    let (region, register, size) = if random.percent(60) {
+        (Distributor, random.pick(&DISTRIBUTOR), 0x1000)
+    } else {
+        (CpuInterface, random.pick(&CPU_INTERFACE), 0x2000)
+    };
+    let width = random.pick(&AccessWidth::ALL);
+    let aligned = |offset: u64| offset - offset % width.size() as u64;
+    let offset = match random.below(4) {
+        0 | 1 => register,
+        2 => aligned(register + random.below(0x100)),
+        _ => aligned(random.below(size)),
+    };
+    let vcpu = scene.vcpu(random);
+    if random.percent(50) {
+        vec![read(region, vcpu, offset, width)]
+    } else {
+        let value = random.number() & random.number();
+        vec![write(region, vcpu, offset, width, value)]
+    }
+}
+
+/// Whatever was switched off is on again: Distributor, interface, mask, and an interrupt's enable.
+fn revive(scene: &Scene, random: &mut Random) -> Vec<Call> {
+    let (vcpu, number) = (scene.vcpu(random), scene.interrupt(random));
+    let control = random.pick(&[1, 1, 0x201]);
+    let enable = GICD_ISENABLER + number / 32 * 4;
+    vec![
+        write(Distributor, vcpu, GICD_CTLR, Dword, 1),
+        write(CpuInterface, vcpu, GICC_CTLR, Dword, control),
+        write(CpuInterface, vcpu, GICC_PMR, Dword, 255),
+        write(Distributor, vcpu, enable, Dword, 1 << (number % 32)),
+    ]
+}

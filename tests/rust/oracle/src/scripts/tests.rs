@@ -1,0 +1,260 @@
+//! That the histories do what they are for, and that demand 3 holds along them.
+use super::Scripts;
+use crate::{
+    AccessWidth, GicV3Controller, IntId,
+    RegisterRegion::{self, CpuInterface, Distributor},
+    access, invariants, lines,
+    machine::{Answer, Call, SPURIOUS},
+    register::*,
+    scripts::steps::{CPU_INTERFACE, DISTRIBUTOR},
+};
+use std::collections::BTreeMap;
+
+const SEEDS: std::ops::Range<u64> = 0..4;
+const LINES: usize = 50_000;
+
+/// Runs every seed's lines and shows each line, the call that it is, its answer and the controller after it.
+fn watch(mut see: impl FnMut(&[u8], Option<(Call, Answer)>, Option<&GicV3Controller>)) {
+    for seed in SEEDS {
+        let mut scripts = Scripts::new(seed);
+        for _ in 0..LINES {
+            let (line, answered) = scripts.play();
+            see(&line, answered, scripts.machine.controller());
+        }
+    }
+}
+
+#[derive(Default)]
+struct Tally(BTreeMap<String, usize>);
+
+impl Tally {
+    fn note(&mut self, what: impl Into<String>) {
+        *self.0.entry(what.into()).or_default() += 1;
+    }
+
+    fn expect(&self, what: &str, least: usize) {
+        let seen = self.0.get(what).copied().unwrap_or(0);
+        assert!(seen >= least, "{what}: {seen} times, not {least}");
+    }
+}
+
+#[test]
+fn a_seed_gives_its_lines_again_and_another_gives_others() {
+    let lines = |seed| Scripts::new(seed).take(1000).collect::<Vec<_>>();
+    assert_eq!(lines(1), lines(1));
+    assert_ne!(lines(1), lines(2));
+}
+
+#[test]
+fn demand_three_holds_after_every_line() {
+    watch(|line, _, gic| {
+        if let Some(broken) = gic.and_then(invariants::broken) {
+            panic!("after {:?}: {broken}", String::from_utf8_lossy(line));
+        }
+    });
+}
+
+#[test]
+fn every_refusal_and_other_forms_come() {
+    let mut tally = Tally::default();
+    watch(|_, answered, _| match answered {
+        Some((_, answer)) => tally.note(format!("refusal {}", answer.refusal)),
+        None => tally.note("?"),
+    });
+    for refusal in [0, 1, 2, 3, 4, 6, 8] {
+        tally.expect(&format!("refusal {refusal}"), 20);
+    }
+    tally.expect("?", 1000);
+}
+
+#[test]
+fn every_register_is_read_and_written_at_every_width() {
+    fn name(region: RegisterRegion, offset: u64, width: AccessWidth, what: &str) -> String {
+        format!("{what} {region:?} {offset:#x} {width:?}")
+    }
+    let mut tally = Tally::default();
+    watch(|_, answered, _| match answered.map(|(call, _)| call) {
+        Some(Call::Read {
+            region,
+            offset,
+            width,
+            ..
+        }) => tally.note(name(region, offset, width, "read")),
+        Some(Call::Write {
+            region,
+            offset,
+            width,
+            ..
+        }) => tally.note(name(region, offset, width, "write")),
+        _ => {}
+    });
+    let distributor = DISTRIBUTOR.map(|offset| (Distributor, offset));
+    let cpu_interface = CPU_INTERFACE.map(|offset| (CpuInterface, offset));
+    for (region, offset) in distributor.into_iter().chain(cpu_interface) {
+        for width in AccessWidth::ALL {
+            for what in ["read", "write"] {
+                tally.expect(&name(region, offset, width, what), 1);
+            }
+        }
+    }
+}
+
+#[test]
+fn everything_that_can_wake_wakes() {
+    let mut tally = Tally::default();
+    watch(|_, answered, _| {
+        if let Some((call, answer)) = answered
+            && answer.wake != 0
+        {
+            tally.note(match call {
+                Call::Write {
+                    region: Distributor,
+                    offset,
+                    ..
+                } => {
+                    let place = DISTRIBUTOR.into_iter().rfind(|first| *first <= offset);
+                    format!("Distributor {:#x}", place.unwrap())
+                }
+                Call::Write { offset, .. } => format!("CpuInterface {offset:#x}"),
+                Call::SetLevel { .. } => "line".into(),
+                Call::Pulse { .. } => "pulse".into(),
+                other => panic!("{other} woke"),
+            });
+            tally.note(format!("{} at once", answer.wake.count_ones()));
+        }
+    });
+    for offset in [
+        GICD_CTLR,
+        GICD_ISENABLER,
+        GICD_ISPENDR,
+        GICD_ICACTIVER,
+        GICD_IPRIORITYR,
+        GICD_ITARGETSR,
+        GICD_SGIR,
+        GICD_SPENDSGIR,
+    ] {
+        tally.expect(&format!("Distributor {offset:#x}"), 20);
+    }
+    for offset in [GICC_CTLR, GICC_PMR, GICC_EOIR, GICC_AEOIR, GICC_DIR] {
+        tally.expect(&format!("CpuInterface {offset:#x}"), 20);
+    }
+    for what in ["line", "pulse", "1 at once", "2 at once", "3 at once"] {
+        tally.expect(what, 20);
+    }
+}
+
+#[test]
+fn interrupts_nest_and_collide() {
+    let mut tally = Tally::default();
+    watch(|_, answered, gic| {
+        if let (Some((call, answer)), Some(gic)) = (answered, gic) {
+            note_call(&mut tally, &call, &answer);
+            note_state(&mut tally, gic);
+        }
+    });
+    for (what, least) in [
+        ("acknowledged", 5000),
+        ("retired by EOIR", 1000),
+        ("retired by DIR", 500),
+        ("from another vCPU", 500),
+        ("depth 2", 1000),
+        ("depth 4", 20),
+        ("an SGI from three at once", 100),
+        ("redelivery noted", 500),
+        ("line high, in flight", 500),
+        ("a number on one stack twice", 20),
+        ("a number on two stacks", 20),
+        ("served by a vCPU that is no target", 100),
+    ] {
+        tally.expect(what, least);
+    }
+}
+
+fn note_call(tally: &mut Tally, call: &Call, answer: &Answer) {
+    match *call {
+        Call::Read {
+            region: CpuInterface,
+            offset: GICC_IAR | GICC_AIAR,
+            ..
+        } if answer.refusal == 0 && answer.value != u64::from(SPURIOUS) => {
+            tally.note("acknowledged");
+            if answer.value >= 1024 {
+                tally.note("from another vCPU");
+            }
+        }
+        Call::Write { offset, .. } if answer.retired != SPURIOUS => {
+            let by = if offset == GICC_DIR { "DIR" } else { "EOIR" };
+            tally.note(format!("retired by {by}"));
+        }
+        _ => {}
+    }
+}
+
+fn note_state(tally: &mut Tally, gic: &GicV3Controller) {
+    let state = gic.state();
+    let stacks: Vec<Vec<IntId>> = state
+        .redistributors
+        .iter()
+        .map(|(_, own)| {
+            own.cpu_interface()
+                .active()
+                .iter()
+                .map(|entry| entry.0)
+                .collect()
+        })
+        .collect();
+    let times = |stack: &Vec<IntId>, it: &IntId| stack.iter().filter(|other| *other == it).count();
+    let on = |it: &IntId| stacks.iter().filter(|stack| stack.contains(it)).count();
+    for stack in &stacks {
+        tally.note(format!("depth {}", stack.len()));
+        if stack.iter().any(|it| times(stack, it) > 1) {
+            tally.note("a number on one stack twice");
+        }
+        if stack
+            .iter()
+            .any(|it| matches!(it, IntId::Spi(_)) && on(it) > 1)
+        {
+            tally.note("a number on two stacks");
+        }
+    }
+    for (_, own) in &state.redistributors {
+        if own.private()[..16]
+            .iter()
+            .any(|it| match it.record.intid() {
+                IntId::Sgi(sgi) => own.sgi_sources(sgi).count_ones() >= 3,
+                _ => false,
+            })
+        {
+            tally.note("an SGI from three at once");
+        }
+    }
+    let private = state
+        .redistributors
+        .iter()
+        .flat_map(|(_, own)| own.private());
+    for it in private.chain(state.distributor.spis()) {
+        let parts = access::parts(&it.record);
+        if parts.redelivery_pending {
+            tally.note("redelivery noted");
+        }
+        if parts.line_asserted && parts.inflight {
+            tally.note("line high, in flight");
+        }
+        if let (Some(owner), Some(mask)) = (it.owner, parts.cpu_target_mask)
+            && mask & 1 << owner.raw() == 0
+        {
+            tally.note("served by a vCPU that is no target");
+        }
+    }
+}
+
+#[test]
+fn a_call_is_written_as_it_is_read() {
+    watch(|line, answered, _| {
+        if let Some((call, _)) = answered {
+            let written = call.to_string();
+            assert_eq!(lines::parse(written.as_bytes()), Some(call));
+            assert!(written.len() <= line.len(), "only zeros are added");
+        }
+    });
+}

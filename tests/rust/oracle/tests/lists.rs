@@ -1,0 +1,81 @@
+//! The fixed lists come out as they stand: each row is a line, ": " and its whole answer, as in document 01.
+use oracle::lines;
+use std::{
+    fs,
+    path::{Path, PathBuf},
+};
+
+fn lists() -> PathBuf {
+    Path::new(env!("CARGO_MANIFEST_DIR")).join("../../lists")
+}
+
+/// The lines and the answers of a list.
+fn rows(name: &str) -> Vec<(Vec<u8>, String)> {
+    let text = fs::read(lists().join(name)).unwrap();
+    let text = text.strip_suffix(b"\n").expect("a last newline");
+    let row = |row: &[u8]| {
+        let at = row
+            .windows(2)
+            .rposition(|two| two == b": ")
+            .expect("an answer");
+        (
+            row[..at].to_vec(),
+            String::from_utf8(row[at + 2..].to_vec()).unwrap(),
+        )
+    };
+    text.split(|&byte| byte == b'\n').map(row).collect()
+}
+
+fn replay(name: &str) {
+    let rows = rows(name);
+    let input: Vec<&[u8]> = rows.iter().map(|row| &row.0[..]).collect();
+    let mut output = vec![];
+    lines::run(&input.join(&b'\n')[..], &mut output).unwrap();
+    let output = String::from_utf8(output).unwrap();
+    assert_eq!(output.lines().count(), rows.len());
+    for (index, ((line, expected), answer)) in rows.iter().zip(output.lines()).enumerate() {
+        let line = String::from_utf8_lossy(line);
+        assert_eq!(answer, expected, "{name}, row {}: {line}", index + 1);
+    }
+}
+
+#[test]
+fn document_01s_example() {
+    assert_eq!(rows("example.list").len(), 11);
+    replay("example.list");
+}
+
+#[test]
+fn document_01s_corners() {
+    replay("corners.list");
+}
+
+#[test]
+fn readings() {
+    replay("readings.list");
+}
+
+#[test]
+fn differences() {
+    replay("differences.list");
+}
+
+#[test]
+fn sample() {
+    replay("sample.list");
+}
+
+#[test]
+fn the_last_line_may_lack_its_newline() {
+    for (input, expected) in [
+        (&b""[..], ""),
+        (b"n 2 40", "0 0 0 1023\n"),
+        (b"n 2 40\n", "0 0 0 1023\n"),
+        (b"n 2 40\n\n", "0 0 0 1023\n?\n"),
+        (b"\nn 2 40\nx", "?\n0 0 0 1023\n?\n"),
+    ] {
+        let mut output = vec![];
+        lines::run(input, &mut output).unwrap();
+        assert_eq!(String::from_utf8(output).unwrap(), expected, "{input:?}");
+    }
+}
