@@ -1,35 +1,43 @@
-//! Demand 3 of the mission, on a state as it stands, with what it needs of SGIs to go on holding.
+//! Demand 3 of the mission, on a state as it stands, and with it the rest of request One's lawful state, which makes it last.
 use crate::{
-    GicV3Controller, GicVcpuId, Priority, SgiId, TriggerMode, access, controller::state::State,
-    redistributor::RedistributorState, registers::Interrupt,
+    GicV3Controller, GicVcpuId, Priority, SgiId, TriggerMode,
+    access::{self, Parts},
+    redistributor::RedistributorState,
+    registers::Interrupt,
 };
 
 /// The first property that does not hold.
 pub(crate) fn broken(gic: &GicV3Controller) -> Option<String> {
     let state = gic.state();
-    let vcpus = state.redistributors.iter().map(|(_, own)| own);
-    let shared = state.distributor.spis();
-    vcpus.clone().find_map(broken_vcpu).or_else(|| {
-        let all = vcpus.flat_map(RedistributorState::private).chain(shared);
-        all.into_iter().find_map(|it| broken_interrupt(&state, it))
-    })
+    let count = state.redistributors.len();
+    let limit = 32 + state.distributor.spis().len() as u32;
+    let exists = |vcpu: GicVcpuId| vcpu.raw() < count;
+    let names_existing = |mask: u8| mask.checked_shr(count as u32).unwrap_or(0) == 0;
+    let broken_vcpu = |(vcpu, own): &(GicVcpuId, RedistributorState)| {
+        let private = |parts: &Parts| parts.cpu_target_mask.is_none();
+        broken_stack(own, limit)
+            .or_else(|| broken_sgi(own))
+            .or_else(|| broken_record(own.private(), |owner| owner == *vcpu, private))
+    };
+    let shared = |parts: &Parts| parts.cpu_target_mask.is_none_or(names_existing);
+    state
+        .redistributors
+        .iter()
+        .find_map(broken_vcpu)
+        .or_else(|| broken_record(state.distributor.spis(), exists, shared))
 }
 
-fn broken_vcpu(own: &RedistributorState) -> Option<String> {
-    let served: Vec<Priority> = own
-        .cpu_interface()
-        .active()
-        .iter()
-        .map(|entry| entry.1)
-        .collect();
-    let falls = served.windows(2).all(|pair| pair[0] > pair[1]);
-    if !falls
-        || served
-            .first()
-            .is_some_and(|oldest| *oldest >= Priority::IDLE)
-    {
-        return Some(format!("priorities under service: {served:?}"));
-    }
+/// The priorities under service fall strictly and lie below 255, and the numbers lie below the limit.
+fn broken_stack(own: &RedistributorState, limit: u32) -> Option<String> {
+    let served = own.cpu_interface().active();
+    let well = served.windows(2).all(|pair| pair[0].1 > pair[1].1)
+        && served.iter().all(|entry| entry.1 < Priority::IDLE)
+        && served.iter().all(|entry| entry.0.raw() < limit);
+    (!well).then(|| format!("under service: {served:?}"))
+}
+
+/// An SGI is pending exactly when a source bit is set; it is edge, its line low, no redelivery noted.
+fn broken_sgi(own: &RedistributorState) -> Option<String> {
     own.private()[..16].iter().zip(0..).find_map(|(it, raw)| {
         let parts = access::parts(&it.record);
         let sources = own.sgi_sources(SgiId::new(raw).ok()?);
@@ -37,14 +45,24 @@ fn broken_vcpu(own: &RedistributorState) -> Option<String> {
             && parts.trigger == TriggerMode::Edge
             && !parts.line_asserted
             && !parts.redelivery_pending;
-        (!well).then(|| format!("SGI {raw}: sources {sources}, {:?}", it.record))
+        (!well).then(|| format!("sources {sources}, {:?}", it.record))
     })
 }
 
-fn broken_interrupt(state: &State, it: &Interrupt) -> Option<String> {
-    let parts = access::parts(&it.record);
-    let exists = |vcpu: GicVcpuId| vcpu.raw() < state.redistributors.len();
-    let well = (!parts.inflight || parts.active && it.owner.is_some_and(exists))
-        && (!parts.redelivery_pending || parts.inflight);
-    (!well).then(|| format!("owner {:?}, {:?}", it.owner, it.record))
+/// One in flight is active and has its one owner, no other has any; redelivery is noted only in flight; the mask is as it may be.
+fn broken_record(
+    interrupts: &[Interrupt],
+    may_own: impl Fn(GicVcpuId) -> bool,
+    may_have_mask: impl Fn(&Parts) -> bool,
+) -> Option<String> {
+    interrupts.iter().find_map(|it| {
+        let parts = access::parts(&it.record);
+        let well = if parts.inflight {
+            parts.active && it.owner.is_some_and(&may_own)
+        } else {
+            it.owner.is_none() && !parts.redelivery_pending
+        };
+        let well = well && may_have_mask(&parts);
+        (!well).then(|| format!("owner {:?}, {:?}", it.owner, it.record))
+    })
 }

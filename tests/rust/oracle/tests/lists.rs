@@ -51,6 +51,11 @@ fn document_01s_corners() {
 }
 
 #[test]
+fn registers() {
+    replay("registers.list");
+}
+
+#[test]
 fn readings() {
     replay("readings.list");
 }

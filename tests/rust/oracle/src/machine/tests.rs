@@ -1,28 +1,34 @@
-//! What no script from setup can show: the full stack, and the oracle's check of itself.
+//! What no script from setup can show: the full stack, states that no history reaches, and the oracle's check of itself.
 use super::*;
-use crate::{IntId, Priority, lines};
+use crate::{
+    IntId, Priority, SgiId, controller::state::State, lines, redistributor::RedistributorState,
+    registers::Bank,
+};
 
-/// Everything on, SGI 1 pending from oneself, and so many entries of SGI 5 at priority 128 on the stack.
-fn with_depth(depth: usize) -> Machine {
+/// One vCPU, SPIs 32 to 39, everything on; then `change` does to the state what no call would.
+fn changed(change: impl FnOnce(&mut State)) -> Machine {
     let mut machine = Machine::default();
-    let script = [
-        "n 1 32",
-        "D 0 0 4 1",
-        "C 0 0 4 1",
-        "C 0 4 4 255",
-        "D 0 3873 1 1",
-    ];
-    for line in script {
-        lines::answer(&mut machine, line.as_bytes()).unwrap();
+    for line in ["n 1 40", "D 0 0 4 1", "C 0 0 4 1", "C 0 4 4 255"] {
+        answer(&mut machine, line);
     }
-    let gic = machine.controller().unwrap();
-    let mut state = gic.state();
-    let cpu = state.redistributors[0].1.cpu_interface_mut();
-    for _ in 0..depth {
-        cpu.push_v2_active(IntId::new(5).unwrap(), Priority(128));
-    }
-    drop(state);
+    change(&mut machine.controller().unwrap().state());
     machine
+}
+
+fn own(state: &mut State) -> &mut RedistributorState {
+    &mut state.redistributors[0].1
+}
+
+/// SGI 1 pending from oneself, and so many entries of SGI 5 at priority 128 on the stack.
+fn with_depth(depth: usize) -> Machine {
+    changed(|state| {
+        let sgi = SgiId::new(1).unwrap();
+        own(state).pend_sgi(GicVcpuId::new(0), sgi);
+        for _ in 0..depth {
+            let cpu = own(state).cpu_interface_mut();
+            cpu.push_v2_active(IntId::new(5).unwrap(), Priority(128));
+        }
+    })
 }
 
 fn answer(machine: &mut Machine, line: &str) -> String {
@@ -48,6 +54,59 @@ fn an_acknowledge_that_7_refuses_gave_no_1023() {
     let mut machine = with_depth(255);
     assert_eq!(answer(&mut machine, "C 0 4 4 0"), "0 0 0 1023");
     assert_eq!(answer(&mut machine, "C 0 4 4 255"), "0 0 0 1023");
+}
+
+#[test]
+fn an_sgi_pending_without_a_source_answers_source_0() {
+    let pending = |state: &mut State| own(state).find_mut(3).unwrap().record.set_pending(true);
+    let mut machine = changed(pending);
+    assert_eq!(answer(&mut machine, "c 0 12 4"), "0 3 0 1023");
+    assert_eq!(answer(&mut machine, "d 0 3856 4"), "0 0 0 1023");
+    // A zero byte leaves it as it is, and one that clears nothing does not.
+    for (line, left) in [
+        ("D 0 3859 1 0", "0 8 0 1023"),
+        ("D 0 3875 1 0", "0 8 0 1023"),
+        ("D 0 3859 1 1", "0 0 0 1023"),
+    ] {
+        let mut machine = changed(pending);
+        answer(&mut machine, line);
+        assert_eq!(answer(&mut machine, "d 0 512 4"), left, "{line}");
+    }
+}
+
+#[test]
+fn in_flight_but_not_active_is_acknowledged_again() {
+    let mut machine = changed(|state| {
+        let it = own(state).find_mut(20).unwrap();
+        it.record.set_enabled(true);
+        it.record.set_pending(true);
+        it.record.mark_inflight();
+        it.owner = None;
+    });
+    assert_eq!(answer(&mut machine, "c 0 12 4"), "0 20 0 1023");
+    assert_eq!(answer(&mut machine, "C 0 16 4 20"), "0 0 0 20");
+}
+
+#[test]
+fn clearing_active_leaves_the_owner_of_one_not_in_flight() {
+    let stray = Some(GicVcpuId::new(0));
+    let mut machine = changed(|state| state.distributor.find_mut(33).unwrap().owner = stray);
+    answer(&mut machine, "D 0 900 4 2");
+    let state = machine.controller().unwrap().state();
+    assert_eq!(state.distributor.find(33).unwrap().owner, stray);
+}
+
+#[test]
+fn ending_a_number_from_the_limit_up_pops_it_and_no_more() {
+    let mut machine = changed(|state| {
+        let number = IntId::new(1019).unwrap();
+        own(state)
+            .cpu_interface_mut()
+            .push_v2_active(number, Priority(7));
+    });
+    assert_eq!(answer(&mut machine, "c 0 20 4"), "0 7 0 1023");
+    assert_eq!(answer(&mut machine, "C 0 16 4 1019"), "0 0 0 1023");
+    assert_eq!(answer(&mut machine, "c 0 20 4"), "0 255 0 1023");
 }
 
 #[test]

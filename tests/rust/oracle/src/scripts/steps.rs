@@ -123,12 +123,15 @@ fn deactivate(scene: &Scene, random: &mut Random) -> Vec<Call> {
     vec![write(CpuInterface, vcpu, GICC_DIR, Dword, number)]
 }
 
-/// Any number that EOIR and DIR may be given: of the scene, from the limit up, undecodable, with a source or with higher bits.
+/// Any number that EOIR and DIR may be given: another vCPU's, of the scene, from the limit up, undecodable, with a source or with
+/// higher bits.
 fn wild_number(scene: &Scene, random: &mut Random) -> u64 {
-    let number = match random.below(6) {
-        0..3 => scene.interrupt(random),
-        3 => scene.limit.min(1019),
-        4 => 1018 + random.below(6),
+    let elsewhere = random.below(scene.count) as usize;
+    let number = match random.below(9) {
+        0..3 if !scene.held[elsewhere].is_empty() => random.pick(&scene.held[elsewhere]) % 1024,
+        0..6 => scene.interrupt(random),
+        6 => scene.limit.min(1019),
+        7 => 1018 + random.below(6),
         _ => random.below(1024),
     };
     number + 1024 * random.pick(&[0, 0, 1, 7, 0xf_ffff])
@@ -332,12 +335,12 @@ fn sweep(scene: &Scene, random: &mut Random) -> Vec<Call> {
         _ => aligned(random.below(size)),
     };
     let vcpu = scene.vcpu(random);
-    if random.percent(50) {
-        vec![read(region, vcpu, offset, width)]
-    } else {
-        let value = random.number() & random.number();
-        vec![write(region, vcpu, offset, width, value)]
-    }
+    let value = random.number() & random.number();
+    let write = write(region, vcpu, offset, width, value);
+    let read = read(region, vcpu, offset, width);
+    random
+        .pick(&[&[write, read][..], &[write], &[read]])
+        .to_vec()
 }
 
 /// Whatever was switched off is on again: Distributor, interface, mask, and an interrupt's enable.
