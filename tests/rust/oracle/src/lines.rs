@@ -1,7 +1,8 @@
 //! The runner's lines: document 01's section of that name.
 use crate::{
-    AccessWidth, RegisterRegion,
-    machine::{Answer, Call, Machine},
+    AccessWidth,
+    RegisterRegion::{self, CpuInterface, Distributor},
+    machine::{Access, Answer, Call, Input, Machine},
 };
 use std::{
     error::Error,
@@ -42,33 +43,31 @@ pub fn parse(line: &[u8]) -> Option<Call> {
     let mut fields = line.split(|&byte| byte == b' ');
     let letter = fields.next()?;
     let numbers = fields.map(number).collect::<Option<Vec<u64>>>()?;
-    let region = match letter {
-        b"c" | b"C" => RegisterRegion::CpuInterface,
-        _ => RegisterRegion::Distributor,
-    };
     match (letter, &numbers[..]) {
         (b"n", &[count, limit]) => Some(Call::Setup { count, limit }),
-        (b"d" | b"c", &[vcpu, offset, size]) => Some(Call::Read {
-            region,
-            vcpu,
-            offset,
-            width: width(size)?,
-        }),
-        (b"D" | b"C", &[vcpu, offset, size, value]) => Some(Call::Write {
-            region,
-            vcpu,
-            offset,
-            width: width(size)?,
-            value,
-        }),
-        (b"l", &[vcpu, number, level @ (0 | 1)]) => Some(Call::SetLevel {
-            vcpu,
-            number,
-            asserted: level == 1,
-        }),
-        (b"p", &[vcpu, number]) => Some(Call::Pulse { vcpu, number }),
+        (b"d", at) => access(Distributor, at).map(Call::Read),
+        (b"c", at) => access(CpuInterface, at).map(Call::Read),
+        (b"D", [at @ .., value]) => Some(Call::Write(access(Distributor, at)?, *value)),
+        (b"C", [at @ .., value]) => Some(Call::Write(access(CpuInterface, at)?, *value)),
+        (b"l", &[vcpu, number, level @ (0 | 1)]) => {
+            Some(Call::SetLevel(Input { vcpu, number }, level == 1))
+        }
+        (b"p", &[vcpu, number]) => Some(Call::Pulse(Input { vcpu, number })),
         _ => None,
     }
+}
+
+fn access(region: RegisterRegion, numbers: &[u64]) -> Option<Access> {
+    let &[vcpu, offset, size] = numbers else {
+        return None;
+    };
+    let mut widths = AccessWidth::ALL.into_iter();
+    Some(Access {
+        region,
+        vcpu,
+        offset,
+        width: widths.find(|width| width.size() as u64 == size)?,
+    })
 }
 
 /// Decimal digits alone, up to 2^64-1.
@@ -77,46 +76,33 @@ fn number(field: &[u8]) -> Option<u64> {
     digits.then(|| str::from_utf8(field).ok()?.parse().ok())?
 }
 
-fn width(size: u64) -> Option<AccessWidth> {
-    AccessWidth::ALL
-        .into_iter()
-        .find(|width| width.size() as u64 == size)
-}
-
 impl fmt::Display for Call {
     fn fmt(&self, f: &mut fmt::Formatter) -> fmt::Result {
-        let letter = |region, distributor, cpu_interface| match region {
-            RegisterRegion::Distributor => distributor,
-            RegisterRegion::CpuInterface => cpu_interface,
-        };
-        match *self {
+        match self {
             Self::Setup { count, limit } => write!(f, "n {count} {limit}"),
-            Self::Read {
-                region,
-                vcpu,
-                offset,
-                width,
-            } => {
-                let letter = letter(region, 'd', 'c');
-                write!(f, "{letter} {vcpu} {offset} {}", width.size())
-            }
-            Self::Write {
-                region,
-                vcpu,
-                offset,
-                width,
-                value,
-            } => {
-                let letter = letter(region, 'D', 'C');
-                write!(f, "{letter} {vcpu} {offset} {} {value}", width.size())
-            }
-            Self::SetLevel {
-                vcpu,
-                number,
-                asserted,
-            } => write!(f, "l {vcpu} {number} {}", u8::from(asserted)),
-            Self::Pulse { vcpu, number } => write!(f, "p {vcpu} {number}"),
+            Self::Read(at) => match at.region {
+                Distributor => write!(f, "d {at}"),
+                CpuInterface => write!(f, "c {at}"),
+            },
+            Self::Write(at, value) => match at.region {
+                Distributor => write!(f, "D {at} {value}"),
+                CpuInterface => write!(f, "C {at} {value}"),
+            },
+            Self::SetLevel(input, asserted) => write!(f, "l {input} {}", u8::from(*asserted)),
+            Self::Pulse(input) => write!(f, "p {input}"),
         }
+    }
+}
+
+impl fmt::Display for Access {
+    fn fmt(&self, f: &mut fmt::Formatter) -> fmt::Result {
+        write!(f, "{} {} {}", self.vcpu, self.offset, self.width.size())
+    }
+}
+
+impl fmt::Display for Input {
+    fn fmt(&self, f: &mut fmt::Formatter) -> fmt::Result {
+        write!(f, "{} {}", self.vcpu, self.number)
     }
 }
 

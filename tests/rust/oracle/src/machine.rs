@@ -1,6 +1,8 @@
 //! Calls of the running files, answered by document 01's numbers.
 use crate::{
-    AccessWidth, GicV3Controller, GicVcpuId, RegisterRegion, VgicError, VgicResult,
+    AccessWidth, GicV3Controller, GicVcpuId,
+    RegisterRegion::{self, CpuInterface, Distributor},
+    VgicError, VgicResult,
     register::{GICC_AIAR, GICC_IAR},
 };
 use std::{error::Error, fmt, sync::OnceLock};
@@ -10,34 +12,29 @@ mod tests;
 
 pub const SPURIOUS: u32 = 1023;
 
+/// Where a register is read or written, and by whom.
+#[derive(Clone, Copy, Debug, PartialEq, Eq)]
+pub struct Access {
+    pub region: RegisterRegion,
+    pub vcpu: u64,
+    pub offset: u64,
+    pub width: AccessWidth,
+}
+
+/// Which interrupt a device works; its vCPU matters to a PPI.
+#[derive(Clone, Copy, Debug, PartialEq, Eq)]
+pub struct Input {
+    pub vcpu: u64,
+    pub number: u64,
+}
+
 #[derive(Clone, Copy, Debug, PartialEq, Eq)]
 pub enum Call {
-    Setup {
-        count: u64,
-        limit: u64,
-    },
-    Read {
-        region: RegisterRegion,
-        vcpu: u64,
-        offset: u64,
-        width: AccessWidth,
-    },
-    Write {
-        region: RegisterRegion,
-        vcpu: u64,
-        offset: u64,
-        width: AccessWidth,
-        value: u64,
-    },
-    SetLevel {
-        vcpu: u64,
-        number: u64,
-        asserted: bool,
-    },
-    Pulse {
-        vcpu: u64,
-        number: u64,
-    },
+    Setup { count: u64, limit: u64 },
+    Read(Access),
+    Write(Access, u64),
+    SetLevel(Input, bool),
+    Pulse(Input),
 }
 
 #[derive(Clone, Copy, Debug, PartialEq, Eq)]
@@ -72,17 +69,29 @@ impl Answer {
 
 impl Call {
     fn is_read(&self) -> bool {
-        matches!(self, Self::Read { .. })
+        matches!(self, Self::Read(_))
     }
 
     /// Every read but an acknowledge.
     fn is_plain_read(&self) -> bool {
-        match *self {
-            Self::Read { region, offset, .. } => {
-                region == RegisterRegion::Distributor || ![GICC_IAR, GICC_AIAR].contains(&offset)
-            }
-            _ => false,
-        }
+        self.is_read() && !self.is_acknowledge()
+    }
+
+    /// What an acknowledge gave, if it gave a number.
+    pub fn acknowledged(&self, answer: &Answer) -> Option<u64> {
+        let given = answer.refusal == 0 && answer.value != u64::from(SPURIOUS);
+        (self.is_acknowledge() && given).then_some(answer.value)
+    }
+
+    fn is_acknowledge(&self) -> bool {
+        matches!(
+            self,
+            Self::Read(Access {
+                region: CpuInterface,
+                offset: GICC_IAR | GICC_AIAR,
+                ..
+            })
+        )
     }
 }
 
@@ -115,36 +124,22 @@ impl Machine {
 
 /// The value read, 0 for all else.
 fn perform(gic: &GicV3Controller, call: &Call) -> VgicResult<u64> {
-    use RegisterRegion::{CpuInterface, Distributor};
     let id = |vcpu: u64| GicVcpuId::new(usize::try_from(vcpu).unwrap_or(usize::MAX));
     match *call {
         Call::Setup { .. } => unreachable!("a call of no controller"),
-        Call::Read {
-            region,
-            vcpu,
-            offset,
-            width,
-        } => match region {
-            Distributor => gic.read_v2_distributor(id(vcpu), offset, width),
-            CpuInterface => gic.read_v2_cpu_interface(id(vcpu), offset, width),
+        Call::Read(at) => match at.region {
+            Distributor => gic.read_v2_distributor(id(at.vcpu), at.offset, at.width),
+            CpuInterface => gic.read_v2_cpu_interface(id(at.vcpu), at.offset, at.width),
         },
-        Call::Write {
-            region,
-            vcpu,
-            offset,
-            width,
-            value,
-        } => match region {
-            Distributor => gic.write_v2_distributor(id(vcpu), offset, width, value),
-            CpuInterface => gic.write_v2_cpu_interface(id(vcpu), offset, width, value),
+        Call::Write(at, value) => match at.region {
+            Distributor => gic.write_v2_distributor(id(at.vcpu), at.offset, at.width, value),
+            CpuInterface => gic.write_v2_cpu_interface(id(at.vcpu), at.offset, at.width, value),
         }
         .map(|()| 0),
-        Call::SetLevel {
-            vcpu,
-            number,
-            asserted,
-        } => gic.set_level(id(vcpu), number, asserted).map(|()| 0),
-        Call::Pulse { vcpu, number } => gic.pulse(id(vcpu), number).map(|()| 0),
+        Call::SetLevel(input, asserted) => gic
+            .set_level(id(input.vcpu), input.number, asserted)
+            .map(|()| 0),
+        Call::Pulse(input) => gic.pulse(id(input.vcpu), input.number).map(|()| 0),
     }
 }
 

@@ -3,7 +3,7 @@ use super::random::Random;
 use crate::{
     AccessWidth::{self, Byte, Dword},
     RegisterRegion::{self, CpuInterface, Distributor},
-    machine::{Answer, Call, SPURIOUS},
+    machine::{Access, Answer, Call, SPURIOUS},
     register::*,
 };
 
@@ -171,36 +171,27 @@ impl Scene {
                 self.held.iter_mut().for_each(Vec::clear);
                 self.dropped.iter_mut().for_each(Vec::clear);
             }
-            Call::Read {
-                region: CpuInterface,
-                vcpu,
-                offset: GICC_IAR | GICC_AIAR,
-                ..
-            } if answer.value != u64::from(SPURIOUS) && vcpu < self.count => {
-                self.held[vcpu as usize].push(answer.value);
+            Call::Read(at) if at.vcpu < self.count => {
+                self.held[at.vcpu as usize].extend(call.acknowledged(answer));
             }
-            Call::Write {
-                region: CpuInterface,
-                vcpu,
-                offset: GICC_EOIR | GICC_AEOIR,
-                value,
-                ..
-            } if vcpu < self.count => {
-                let newest = |it: &mut u64| *it % 1024 == value % 1024;
-                let ended = self.held[vcpu as usize].pop_if(newest);
+            Call::Write(at, value) if at.region == CpuInterface && at.vcpu < self.count => {
+                self.see_write(&at, value, answer);
+            }
+            _ => {}
+        }
+    }
+
+    fn see_write(&mut self, at: &Access, value: u64, answer: &Answer) {
+        let vcpu = at.vcpu as usize;
+        let same = |it: u64| it % 1024 == value % 1024;
+        match at.offset {
+            GICC_EOIR | GICC_AEOIR => {
+                let ended = self.held[vcpu].pop_if(|newest| same(*newest));
                 if answer.retired == SPURIOUS {
-                    self.dropped[vcpu as usize].extend(ended);
+                    self.dropped[vcpu].extend(ended);
                 }
             }
-            Call::Write {
-                region: CpuInterface,
-                vcpu,
-                offset: GICC_DIR,
-                value,
-                ..
-            } if vcpu < self.count => {
-                self.dropped[vcpu as usize].retain(|it| it % 1024 != value % 1024);
-            }
+            GICC_DIR => self.dropped[vcpu].retain(|it| !same(*it)),
             _ => {}
         }
     }
@@ -213,20 +204,20 @@ pub fn write(
     width: AccessWidth,
     value: u64,
 ) -> Call {
-    Call::Write {
+    let at = Access {
         region,
         vcpu,
         offset,
         width,
-        value,
-    }
+    };
+    Call::Write(at, value)
 }
 
 pub fn read(region: RegisterRegion, vcpu: u64, offset: u64, width: AccessWidth) -> Call {
-    Call::Read {
+    Call::Read(Access {
         region,
         vcpu,
         offset,
         width,
-    }
+    })
 }

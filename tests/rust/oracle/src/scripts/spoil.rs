@@ -1,6 +1,9 @@
 //! What should be refused: before some good lines a call with a bad part, or a line of another form.
 use super::{random::Random, scene::Scene};
-use crate::{AccessWidth, RegisterRegion, machine::Call};
+use crate::{
+    AccessWidth, RegisterRegion,
+    machine::{Access, Call, Input},
+};
 
 /// The lines for one call: the call itself, and now and then something refused before it.
 pub fn lines(random: &mut Random, scene: &Scene, call: Call) -> Vec<Vec<u8>> {
@@ -35,107 +38,71 @@ fn refused_setup(random: &mut Random) -> Call {
 
 /// The call with a vCPU, offset, width, number or value that it should not have.
 fn spoiled(random: &mut Random, scene: &Scene, call: Call) -> Call {
-    let stranger = random.pick(&[
-        scene.count,
-        scene.count + 1,
-        8,
-        9,
-        255,
-        256,
-        1 << 32,
-        1 << 63,
-        u64::MAX,
-    ]);
     match call {
         Call::Setup { .. } => refused_setup(random),
-        Call::Read {
-            region,
-            mut vcpu,
-            mut offset,
-            mut width,
-        } => {
-            match random.below(3) {
-                0 => vcpu = stranger,
-                1 => offset = bad_offset(random, region, offset),
-                _ => width = random.pick(&AccessWidth::ALL),
-            }
-            Call::Read {
-                region,
-                vcpu,
-                offset,
-                width,
-            }
+        Call::Read(at) => Call::Read(bad_access(random, scene, at)),
+        Call::Write(at, value) if random.percent(25) => {
+            Call::Write(at, value | random.number() << (8 * at.width.size() % 64))
         }
-        Call::Write {
-            region,
-            mut vcpu,
-            mut offset,
-            mut width,
-            mut value,
-        } => {
-            match random.below(4) {
-                0 => vcpu = stranger,
-                1 => offset = bad_offset(random, region, offset),
-                2 => width = random.pick(&AccessWidth::ALL),
-                _ => value |= random.number() << (8 * width.size() % 64),
-            }
-            Call::Write {
-                region,
-                vcpu,
-                offset,
-                width,
-                value,
-            }
+        Call::Write(at, value) => Call::Write(bad_access(random, scene, at), value),
+        Call::SetLevel(input, asserted) => {
+            Call::SetLevel(bad_input(random, scene, input), asserted)
         }
-        Call::SetLevel { vcpu, asserted, .. } if random.percent(50) => Call::SetLevel {
-            vcpu,
-            number: bad_input(random, scene),
-            asserted,
+        Call::Pulse(input) => Call::Pulse(bad_input(random, scene, input)),
+    }
+}
+
+/// A vCPU that does not exist, some by being cut to fewer bits.
+fn stranger(random: &mut Random, scene: &Scene) -> u64 {
+    let count = scene.count;
+    random.pick(&[count, count + 1, 8, 9, 255, 256, 1 << 32, 1 << 63, u64::MAX])
+}
+
+fn bad_access(random: &mut Random, scene: &Scene, at: Access) -> Access {
+    match random.below(3) {
+        0 => Access {
+            vcpu: stranger(random, scene),
+            ..at
         },
-        Call::Pulse { vcpu, .. } if random.percent(50) => Call::Pulse {
-            vcpu,
-            number: bad_input(random, scene),
+        1 => Access {
+            offset: bad_offset(random, at),
+            ..at
         },
-        Call::SetLevel {
-            number, asserted, ..
-        } => Call::SetLevel {
-            vcpu: stranger,
-            number,
-            asserted,
-        },
-        Call::Pulse { number, .. } => Call::Pulse {
-            vcpu: stranger,
-            number,
+        _ => Access {
+            width: random.pick(&AccessWidth::ALL),
+            ..at
         },
     }
 }
 
-fn bad_offset(random: &mut Random, region: RegisterRegion, offset: u64) -> u64 {
-    let size: u64 = match region {
+fn bad_offset(random: &mut Random, at: Access) -> u64 {
+    let size: u64 = match at.region {
         RegisterRegion::Distributor => 0x1000,
         RegisterRegion::CpuInterface => 0x2000,
     };
     let beside = random.below(16);
     match random.below(5) {
-        0 | 1 => offset ^ (1 + random.below(3)),
+        0 | 1 => at.offset ^ (1 + random.below(3)),
         2 => size - 8 + beside,
-        3 => (1 << 32) + offset,
+        3 => (1 << 32) + at.offset,
         _ => u64::MAX - beside,
     }
 }
 
-fn bad_input(random: &mut Random, scene: &Scene) -> u64 {
-    let number = random.pick(&scene.inputs);
-    random.pick(&[
-        0,
-        15,
-        scene.limit,
-        scene.limit + 1,
-        1020,
-        1023,
-        (1 << 32) + number,
-        u64::MAX,
-    ])
+fn bad_input(random: &mut Random, scene: &Scene, input: Input) -> Input {
+    let limit = scene.limit;
+    let cut = (1 << 32) + input.number;
+    if random.percent(50) {
+        Input {
+            vcpu: stranger(random, scene),
+            ..input
+        }
+    } else {
+        Input {
+            number: random.pick(&[0, 15, limit, limit + 1, 1020, 1023, cut, u64::MAX]),
+            ..input
+        }
+    }
 }
 
 /// The same call in a line of `length` bytes: leading zeros in its last number.

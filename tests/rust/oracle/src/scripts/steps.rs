@@ -6,7 +6,7 @@ use super::{
 use crate::{
     AccessWidth::{self, Byte, Dword, Word},
     RegisterRegion::{CpuInterface, Distributor},
-    machine::Call,
+    machine::{Call, Input},
     register::*,
 };
 
@@ -87,7 +87,7 @@ fn nest(scene: &Scene, random: &mut Random) -> Vec<Call> {
     let pend = if number < 16 {
         write(Distributor, vcpu, GICD_SGIR, Dword, 2 << 24 | number)
     } else {
-        Call::Pulse { vcpu, number }
+        Call::Pulse(Input { vcpu, number })
     };
     vec![
         write(Distributor, vcpu, GICD_IPRIORITYR + number, Byte, priority),
@@ -165,13 +165,10 @@ fn input(scene: &Scene, random: &mut Random) -> Vec<Call> {
     } else {
         random.pick(&served)
     };
-    let line = |asserted| Call::SetLevel {
-        vcpu,
-        number,
-        asserted,
-    };
+    let input = Input { vcpu, number };
+    let line = |asserted| Call::SetLevel(input, asserted);
     match random.below(10) {
-        0..4 => vec![Call::Pulse { vcpu, number }],
+        0..4 => vec![Call::Pulse(input)],
         4..7 => vec![line(true)],
         7..9 => vec![line(false)],
         _ => vec![line(true), line(false)],

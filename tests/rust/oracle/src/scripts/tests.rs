@@ -73,20 +73,13 @@ fn every_register_is_read_and_written_at_every_width() {
         format!("{what} {region:?} {offset:#x} {width:?}")
     }
     let mut tally = Tally::default();
-    watch(|_, answered, _| match answered.map(|(call, _)| call) {
-        Some(Call::Read {
-            region,
-            offset,
-            width,
-            ..
-        }) => tally.note(name(region, offset, width, "read")),
-        Some(Call::Write {
-            region,
-            offset,
-            width,
-            ..
-        }) => tally.note(name(region, offset, width, "write")),
-        _ => {}
+    watch(|_, answered, _| {
+        let (at, what) = match answered.map(|(call, _)| call) {
+            Some(Call::Read(at)) => (at, "read"),
+            Some(Call::Write(at, _)) => (at, "write"),
+            _ => return,
+        };
+        tally.note(name(at.region, at.offset, at.width, what));
     });
     let distributor = DISTRIBUTOR.map(|offset| (Distributor, offset));
     let cpu_interface = CPU_INTERFACE.map(|offset| (CpuInterface, offset));
@@ -107,17 +100,13 @@ fn everything_that_can_wake_wakes() {
             && answer.wake != 0
         {
             tally.note(match call {
-                Call::Write {
-                    region: Distributor,
-                    offset,
-                    ..
-                } => {
-                    let place = DISTRIBUTOR.into_iter().rfind(|first| *first <= offset);
+                Call::Write(at, _) if at.region == Distributor => {
+                    let place = DISTRIBUTOR.into_iter().rfind(|first| *first <= at.offset);
                     format!("Distributor {:#x}", place.unwrap())
                 }
-                Call::Write { offset, .. } => format!("CpuInterface {offset:#x}"),
-                Call::SetLevel { .. } => "line".into(),
-                Call::Pulse { .. } => "pulse".into(),
+                Call::Write(at, _) => format!("CpuInterface {:#x}", at.offset),
+                Call::SetLevel(..) => "line".into(),
+                Call::Pulse(_) => "pulse".into(),
                 other => panic!("{other} woke"),
             });
             tally.note(format!("{} at once", answer.wake.count_ones()));
@@ -171,22 +160,17 @@ fn interrupts_nest_and_collide() {
 }
 
 fn note_call(tally: &mut Tally, call: &Call, answer: &Answer) {
-    match *call {
-        Call::Read {
-            region: CpuInterface,
-            offset: GICC_IAR | GICC_AIAR,
-            ..
-        } if answer.refusal == 0 && answer.value != u64::from(SPURIOUS) => {
-            tally.note("acknowledged");
-            if answer.value >= 1024 {
-                tally.note("from another vCPU");
-            }
+    if let Some(value) = call.acknowledged(answer) {
+        tally.note("acknowledged");
+        if value >= 1024 {
+            tally.note("from another vCPU");
         }
-        Call::Write { offset, .. } if answer.retired != SPURIOUS => {
-            let by = if offset == GICC_DIR { "DIR" } else { "EOIR" };
-            tally.note(format!("retired by {by}"));
-        }
-        _ => {}
+    }
+    if let Call::Write(at, _) = call
+        && answer.retired != SPURIOUS
+    {
+        let by = if at.offset == GICC_DIR { "DIR" } else { "EOIR" };
+        tally.note(format!("retired by {by}"));
     }
 }
 
