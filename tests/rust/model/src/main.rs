@@ -1,12 +1,5 @@
-//! A second writing of document 01's rules, made without sight of v2.rs: records in a Vec, plain loops. It answers the runner's lines as
-//! the oracle must, so that a mistake in the oracle's stand-in shows as a difference.
-mod gic;
-mod lines;
-mod place;
-mod record;
-
-use gic::Gic;
-use lines::answer_line;
+//! Answers the runner's lines on standard input by the second writing of the rules.
+use model::{gic::Gic, lines::answer_line};
 use std::io::{self, Read, Write};
 
 fn main() -> io::Result<()> {

@@ -71,6 +71,11 @@ impl RedistributorState {
         self.sources[usize::from(sgi.raw())]
     }
 
+    #[cfg(test)]
+    pub fn sources(&self) -> &[u8; 16] {
+        &self.sources
+    }
+
     pub fn has_sgi_sources(&self, sgi: SgiId) -> bool {
         self.sgi_sources(sgi) != 0
     }

@@ -7,8 +7,10 @@ mod scene;
 mod spoil;
 mod steps;
 #[cfg(test)]
-mod tests;
+pub(crate) mod tests;
 
+#[cfg(test)]
+use crate::GicV3Controller;
 use crate::{
     lines,
     machine::{Answer, Call, Machine},
@@ -39,7 +41,7 @@ impl Scripts {
     }
 
     /// The next line and, if it is a call, what it was answered.
-    fn play(&mut self) -> (Vec<u8>, Option<(Call, Answer)>) {
+    pub(crate) fn play(&mut self) -> (Vec<u8>, Option<(Call, Answer)>) {
         while self.ready.is_empty() {
             self.refill();
         }
@@ -53,6 +55,11 @@ impl Scripts {
             (call, answer)
         });
         (line, answered)
+    }
+
+    #[cfg(test)]
+    pub(crate) fn controller(&self) -> Option<&GicV3Controller> {
+        self.machine.controller()
     }
 
     fn refill(&mut self) {

@@ -18,8 +18,8 @@ pub(crate) enum DeliveryRetirement {
     Emulated {
         intid: IntId,
     },
+    /// v2.rs takes one apart; physical bindings are left out, and none can be made.
     #[allow(dead_code)]
-    // v2.rs takes one apart; physical bindings are left out, and none can be made
     Physical {
         binding: PhysicalBinding,
     },

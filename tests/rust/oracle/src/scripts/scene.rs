@@ -7,7 +7,7 @@ use crate::{
     register::*,
 };
 
-/// Of urgent to not at all; 255 is never offered.
+/// From the most urgent to one that is never offered.
 const PRIORITIES: [u64; 8] = [0, 0x10, 0x20, 0x40, 0x7f, 0x80, 0xa0, 0xff];
 
 pub struct Scene {
@@ -152,7 +152,7 @@ impl Scene {
         }
     }
 
-    /// Vcpus as a mask, mostly of the stage.
+    /// A mask of vCPUs, mostly of the stage.
     pub fn targets(&self, random: &mut Random) -> u64 {
         match random.below(4) {
             0 => random.below(256),
@@ -161,7 +161,7 @@ impl Scene {
         }
     }
 
-    /// Keeps up with what an accepted call has done. (A spoiled setup may have made other vCPUs than the scene has.)
+    /// Keeps up with what an accepted call has done. (An accepted one may still name a vCPU that does not exist.)
     pub fn see(&mut self, call: &Call, answer: &Answer) {
         if answer.refusal != 0 {
             return;

@@ -52,7 +52,7 @@ fn spoiled(random: &mut Random, scene: &Scene, call: Call) -> Call {
     }
 }
 
-/// A vCPU that does not exist, some by being cut to fewer bits.
+/// A vCPU that does not exist; some would, if their numbers were cut to fewer bits.
 fn stranger(random: &mut Random, scene: &Scene) -> u64 {
     let count = scene.count;
     random.pick(&[count, count + 1, 8, 9, 255, 256, 1 << 32, 1 << 63, u64::MAX])

@@ -10,8 +10,8 @@ use crate::{
 };
 use std::collections::BTreeMap;
 
-const SEEDS: std::ops::Range<u64> = 0..4;
-const LINES: usize = 50_000;
+pub const SEEDS: std::ops::Range<u64> = 0..4;
+pub const LINES: usize = 50_000;
 
 /// Runs every seed's lines and shows each line, the call that it is, its answer and the controller after it.
 fn watch(mut see: impl FnMut(&[u8], Option<(Call, Answer)>, Option<&GicV3Controller>)) {
@@ -19,7 +19,7 @@ fn watch(mut see: impl FnMut(&[u8], Option<(Call, Answer)>, Option<&GicV3Control
         let mut scripts = Scripts::new(seed);
         for _ in 0..LINES {
             let (line, answered) = scripts.play();
-            see(&line, answered, scripts.machine.controller());
+            see(&line, answered, scripts.controller());
         }
     }
 }
