@@ -8,7 +8,7 @@ use crate::{
 pub(crate) struct DistributorState {
     enabled: bool,
     /// The SPIs, from number 32 to the limit.
-    spis: Vec<Interrupt>,
+    pub spis: Vec<Interrupt>,
 }
 
 impl DistributorState {
@@ -28,10 +28,6 @@ impl DistributorState {
 
     pub fn set_enabled(&mut self, enabled: bool) {
         self.enabled = enabled;
-    }
-
-    pub fn spis(&self) -> &[Interrupt] {
-        &self.spis
     }
 
     pub fn interrupt(&self, spi: SpiId) -> VgicResult<&InterruptRecord> {

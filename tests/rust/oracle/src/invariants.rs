@@ -10,21 +10,21 @@ use crate::{
 pub(crate) fn broken(gic: &GicV3Controller) -> Option<String> {
     let state = gic.state();
     let count = state.redistributors.len();
-    let limit = 32 + state.distributor.spis().len() as u32;
+    let limit = 32 + state.distributor.spis.len() as u32;
     let exists = |vcpu: GicVcpuId| vcpu.raw() < count;
     let names_existing = |mask: u8| mask.checked_shr(count as u32).unwrap_or(0) == 0;
     let broken_vcpu = |(vcpu, own): &(GicVcpuId, RedistributorState)| {
         let private = |parts: &Parts| parts.cpu_target_mask.is_none();
         broken_stack(own, limit)
             .or_else(|| broken_sgi(own))
-            .or_else(|| broken_record(own.private(), |owner| owner == *vcpu, private))
+            .or_else(|| broken_record(&own.private, |owner| owner == *vcpu, private))
     };
     let shared = |parts: &Parts| parts.cpu_target_mask.is_none_or(names_existing);
     state
         .redistributors
         .iter()
         .find_map(broken_vcpu)
-        .or_else(|| broken_record(state.distributor.spis(), exists, shared))
+        .or_else(|| broken_record(&state.distributor.spis, exists, shared))
 }
 
 /// The priorities under service fall strictly and lie below 255, and the numbers lie below the limit.
@@ -38,7 +38,7 @@ fn broken_stack(own: &RedistributorState, limit: u32) -> Option<String> {
 
 /// An SGI is pending exactly when a source bit is set; it is edge, its line low, no redelivery noted.
 fn broken_sgi(own: &RedistributorState) -> Option<String> {
-    own.private()[..16].iter().zip(0..).find_map(|(it, raw)| {
+    own.private[..16].iter().zip(0..).find_map(|(it, raw)| {
         let parts = access::parts(&it.record);
         let sources = own.sgi_sources(SgiId::new(raw).ok()?);
         let well = parts.pending == (sources != 0)

@@ -13,8 +13,6 @@ mod distributor;
 mod invariants;
 mod redistributor;
 mod registers;
-#[cfg(test)]
-mod second_writing;
 
 pub mod lines;
 pub mod machine;

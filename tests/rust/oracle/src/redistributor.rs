@@ -11,8 +11,8 @@ use crate::{
 pub(crate) struct RedistributorState {
     vcpu: GicVcpuId,
     /// Numbers 0 to 31.
-    private: Vec<Interrupt>,
-    sources: [u8; 16],
+    pub private: Vec<Interrupt>,
+    pub sources: [u8; 16],
     cpu: CpuInterfaceState,
 }
 
@@ -36,10 +36,6 @@ impl RedistributorState {
 
     pub fn affinity(&self) -> GicAffinity {
         GicAffinity(self.vcpu.raw())
-    }
-
-    pub fn private(&self) -> &[Interrupt] {
-        &self.private
     }
 
     pub fn private_mut(&mut self, intid: IntId) -> VgicResult<&mut InterruptRecord> {
@@ -69,11 +65,6 @@ impl RedistributorState {
 
     pub fn sgi_sources(&self, sgi: SgiId) -> u8 {
         self.sources[usize::from(sgi.raw())]
-    }
-
-    #[cfg(test)]
-    pub fn sources(&self) -> &[u8; 16] {
-        &self.sources
     }
 
     pub fn has_sgi_sources(&self, sgi: SgiId) -> bool {
@@ -162,15 +153,10 @@ impl<'a> Redistributor<'a> {
             let mask = it.record.cpu_target_mask().unwrap_or(0);
             mask & 1 << self.own.vcpu.raw() != 0
         };
-        let spis = self.distributor.spis().iter().filter(named);
+        let spis = self.distributor.spis.iter().filter(named);
+        let seen = self.own.private.iter().chain(spis);
         let mut best: Option<(IntId, Priority)> = None;
-        for it in self
-            .own
-            .private()
-            .iter()
-            .chain(spis)
-            .filter(|it| it.offered())
-        {
+        for it in seen.filter(|it| it.offered()) {
             let intid = it.record.intid();
             let priority = match intid {
                 IntId::Spi(spi) => spi_priority(spi)?,

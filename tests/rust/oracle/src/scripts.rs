@@ -4,13 +4,13 @@
 //! answers each line as it is made, so that what was acknowledged can be ended in order, out of order, or cancelled.
 mod random;
 mod scene;
+#[cfg(test)]
+mod second_writing;
 mod spoil;
 mod steps;
 #[cfg(test)]
-pub(crate) mod tests;
+mod tests;
 
-#[cfg(test)]
-use crate::GicV3Controller;
 use crate::{
     lines,
     machine::{Answer, Call, Machine},
@@ -41,7 +41,7 @@ impl Scripts {
     }
 
     /// The next line and, if it is a call, what it was answered.
-    pub(crate) fn play(&mut self) -> (Vec<u8>, Option<(Call, Answer)>) {
+    fn play(&mut self) -> (Vec<u8>, Option<(Call, Answer)>) {
         while self.ready.is_empty() {
             self.refill();
         }
@@ -55,11 +55,6 @@ impl Scripts {
             (call, answer)
         });
         (line, answered)
-    }
-
-    #[cfg(test)]
-    pub(crate) fn controller(&self) -> Option<&GicV3Controller> {
-        self.machine.controller()
     }
 
     fn refill(&mut self) {

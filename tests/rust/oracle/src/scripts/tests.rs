@@ -19,7 +19,7 @@ fn watch(mut see: impl FnMut(&[u8], Option<(Call, Answer)>, Option<&GicV3Control
         let mut scripts = Scripts::new(seed);
         for _ in 0..LINES {
             let (line, answered) = scripts.play();
-            see(&line, answered, scripts.controller());
+            see(&line, answered, scripts.machine.controller());
         }
     }
 }
@@ -202,21 +202,18 @@ fn note_state(tally: &mut Tally, gic: &GicV3Controller) {
         }
     }
     for (_, own) in &state.redistributors {
-        if own.private()[..16]
-            .iter()
-            .any(|it| match it.record.intid() {
-                IntId::Sgi(sgi) => own.sgi_sources(sgi).count_ones() >= 3,
-                _ => false,
-            })
-        {
+        if own.private[..16].iter().any(|it| match it.record.intid() {
+            IntId::Sgi(sgi) => own.sgi_sources(sgi).count_ones() >= 3,
+            _ => false,
+        }) {
             tally.note("an SGI from three at once");
         }
     }
     let private = state
         .redistributors
         .iter()
-        .flat_map(|(_, own)| own.private());
-    for it in private.chain(state.distributor.spis()) {
+        .flat_map(|(_, own)| &own.private);
+    for it in private.chain(&state.distributor.spis) {
         let parts = access::parts(&it.record);
         if parts.redelivery_pending {
             tally.note("redelivery noted");

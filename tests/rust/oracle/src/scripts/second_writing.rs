@@ -1,0 +1,231 @@
+//! The second writing of document 01's rules (`model`) beside the oracle: the same answer and the same whole state after every line,
+//! from setup on and from any state at all.
+use super::{
+    Scripts,
+    random::Random,
+    scene::Scene,
+    spoil, steps,
+    tests::{LINES, SEEDS},
+};
+use crate::{
+    GicV3Controller, GicVcpuId, IntId, Priority, TriggerMode,
+    access::{self, Parts},
+    controller::state::State,
+    lines,
+    machine::{Call, Machine},
+    redistributor::RedistributorState,
+    registers::Interrupt,
+};
+use model::{gic::Gic, lines::answer_line, record::Record};
+
+/// A record in both writings' terms: enabled, pending, active, in flight, redelivery noted, line, edge; priority; mask; owner.
+type Shown = ([bool; 7], u8, Option<u8>, Option<u64>);
+
+fn of_oracle(it: &Interrupt) -> Shown {
+    let parts = access::parts(&it.record);
+    let flags = [
+        parts.enabled,
+        parts.pending,
+        parts.active,
+        parts.inflight,
+        parts.redelivery_pending,
+        parts.line_asserted,
+        parts.trigger == TriggerMode::Edge,
+    ];
+    let owner = it.owner.map(|vcpu| vcpu.raw() as u64);
+    (flags, parts.priority.raw(), parts.cpu_target_mask, owner)
+}
+
+fn of_model(r: &Record) -> Shown {
+    let flags = [
+        r.enabled,
+        r.pending,
+        r.active,
+        r.inflight,
+        r.redelivery,
+        r.line,
+        r.edge,
+    ];
+    (flags, r.priority, r.mask, r.owner)
+}
+
+fn assert_same_state(gic: &GicV3Controller, second: &Gic) {
+    let state = gic.state();
+    assert_eq!(state.distributor.enabled(), second.on);
+    assert_eq!(state.redistributors.len() as u64, second.count);
+    let private = state
+        .redistributors
+        .iter()
+        .flat_map(|(_, own)| &own.private);
+    let records = private.chain(&state.distributor.spis).map(of_oracle);
+    assert!(records.eq(second.records.iter().map(of_model)));
+    for (vcpu, (_, own)) in state.redistributors.iter().enumerate() {
+        assert_same_interface(own, second, vcpu);
+    }
+}
+
+fn assert_same_interface(own: &RedistributorState, second: &Gic, vcpu: usize) {
+    let cpu = own.cpu_interface();
+    assert_eq!(u64::from(cpu.v2_control()), second.ctlr[vcpu]);
+    assert_eq!(u64::from(cpu.v2_priority_mask().raw()), second.pmr[vcpu]);
+    assert_eq!(u64::from(cpu.v2_binary_point()), second.bpr[vcpu]);
+    let stack = cpu.active().iter();
+    let stack = stack.map(|(intid, priority)| (u64::from(intid.raw()), priority.raw()));
+    assert!(stack.eq(second.stack[vcpu].iter().copied()));
+    assert_eq!(own.sources, second.sources[16 * vcpu..][..16]);
+}
+
+/// What the second writing answers.
+fn second_answer(second: &mut Option<Gic>, line: &[u8]) -> String {
+    let mut answer = vec![];
+    answer_line(second, line, &mut answer);
+    String::from_utf8(answer).unwrap().trim_end().into()
+}
+
+#[test]
+fn the_second_writing_has_the_same_answer_and_state_after_every_line() {
+    for seed in SEEDS {
+        let (mut scripts, mut second) = (Scripts::new(seed), None);
+        for _ in 0..LINES {
+            let (line, answered) = scripts.play();
+            let answer = answered.map_or("?".into(), |(_, answer)| answer.to_string());
+            let shown = String::from_utf8_lossy(&line);
+            assert_eq!(second_answer(&mut second, &line), answer, "{shown}");
+            match (scripts.machine.controller(), &second) {
+                (Some(gic), Some(second)) => assert_same_state(gic, second),
+                (gic, second) => assert_eq!(gic.is_some(), second.is_some()),
+            }
+        }
+    }
+}
+
+fn to_oracle(intid: IntId, shown: &Shown) -> Interrupt {
+    let (flags, priority, cpu_target_mask, owner) = *shown;
+    let parts = Parts {
+        intid,
+        enabled: flags[0],
+        pending: flags[1],
+        active: flags[2],
+        inflight: flags[3],
+        redelivery_pending: flags[4],
+        line_asserted: flags[5],
+        trigger: if flags[6] {
+            TriggerMode::Edge
+        } else {
+            TriggerMode::Level
+        },
+        priority: Priority(priority),
+        cpu_target_mask,
+    };
+    Interrupt {
+        record: access::make(&parts),
+        owner: owner.map(|vcpu| GicVcpuId::new(vcpu as usize)),
+    }
+}
+
+fn to_model(shown: &Shown) -> Record {
+    let (flags, priority, mask, owner) = *shown;
+    let [enabled, pending, active, inflight, redelivery, line, edge] = flags;
+    Record {
+        enabled,
+        pending,
+        active,
+        inflight,
+        redelivery,
+        line,
+        edge,
+        priority,
+        mask,
+        owner,
+    }
+}
+
+/// Any record at all, also such as no history reaches.
+fn any_record(random: &mut Random) -> Shown {
+    let bits = random.number();
+    let flags = std::array::from_fn(|place| bits >> place & 1 == 1);
+    let priority = random.pick(&[0, 0x7f, 0x80, 0xfe, 0xff, (bits >> 16) as u8]);
+    let mask = random.percent(70).then_some((bits >> 8) as u8);
+    let owner = random.percent(70).then_some(random.below(9));
+    (flags, priority, mask, owner)
+}
+
+/// Puts both into one state, whatever it is.
+fn scramble(random: &mut Random, state: &mut State, second: &mut Gic) {
+    second.on = random.percent(90);
+    state.distributor.set_enabled(second.on);
+    let vcpus = state.redistributors.iter_mut();
+    let private = vcpus.flat_map(|(_, own)| &mut own.private);
+    let all = private.chain(&mut state.distributor.spis);
+    for (it, record) in all.zip(&mut second.records) {
+        let shown = any_record(random);
+        *it = to_oracle(it.record.intid(), &shown);
+        *record = to_model(&shown);
+    }
+    for (vcpu, (_, own)) in state.redistributors.iter_mut().enumerate() {
+        scramble_interface(random, own, second, vcpu);
+    }
+}
+
+fn scramble_interface(
+    random: &mut Random,
+    own: &mut RedistributorState,
+    second: &mut Gic,
+    vcpu: usize,
+) {
+    let control = random.pick(&[1, 1, 0x201, 0x201, 0]);
+    let (mask, point) = (random.pick(&[255, 255, 0x80, 0]), random.below(8) as u8);
+    let cpu = own.cpu_interface_mut();
+    cpu.set_v2_control(control);
+    cpu.set_v2_priority_mask(mask);
+    cpu.set_v2_binary_point(point);
+    second.ctlr[vcpu] = control.into();
+    second.pmr[vcpu] = mask.into();
+    second.bpr[vcpu] = point.into();
+    for _ in 0..random.pick(&[0, 0, 1, 3, 254, 255]) {
+        let (raw, priority) = (random.below(1020), random.below(256) as u8);
+        cpu.push_v2_active(IntId::new(raw as u32).unwrap(), Priority(priority));
+        second.stack[vcpu].push((raw, priority));
+    }
+    for sgi in 0..16 {
+        let sources = (random.number() & random.number()) as u8;
+        own.sources[sgi] = sources;
+        second.sources[16 * vcpu + sgi] = sources;
+    }
+}
+
+/// Both in one state, whatever it is, and the lines of a few steps to take from there.
+fn any_start(random: &mut Random) -> (Machine, Option<Gic>, Vec<Vec<u8>>) {
+    let mut scene = Scene::new(random);
+    let (count, limit) = (scene.count, scene.limit);
+    let setup = Call::Setup { count, limit };
+    let (mut machine, mut second) = (Machine::default(), None);
+    machine.call(&setup).unwrap();
+    second_answer(&mut second, setup.to_string().as_bytes());
+    let gic = machine.controller().unwrap();
+    scramble(random, &mut gic.state(), second.as_mut().unwrap());
+    let mut lines = vec![];
+    for _ in 0..20 {
+        for call in steps::next(&mut scene, random) {
+            lines.extend(spoil::lines(random, &scene, call));
+        }
+    }
+    (machine, second, lines)
+}
+
+#[test]
+fn from_any_state_too() {
+    let mut random = Random::new(0);
+    let mut refused_by_7 = 0;
+    for _ in 0..1000 {
+        let (mut machine, mut second, lines) = any_start(&mut random);
+        for line in lines {
+            let answer = lines::answer(&mut machine, &line).unwrap();
+            let shown = String::from_utf8_lossy(&line);
+            assert_eq!(second_answer(&mut second, &line), answer, "{shown}");
+            assert_same_state(machine.controller().unwrap(), second.as_ref().unwrap());
+            refused_by_7 += usize::from(answer.starts_with('7'));
+        }
+    }
+    assert!(refused_by_7 > 100, "{refused_by_7}");
+}
