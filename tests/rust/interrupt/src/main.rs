@@ -113,6 +113,27 @@ impl<W: Write> Row<'_, W> {
     }
 }
 
+/// SPI 32 with these seven flags.
+fn start(low: u32, priority: Priority, cpu_target_mask: Option<u8>) -> Parts {
+    let set = |place: u32| low >> place & 1 == 1;
+    Parts {
+        intid: IntId::new(32).unwrap(),
+        enabled: set(0),
+        pending: set(1),
+        active: set(2),
+        inflight: set(3),
+        redelivery_pending: set(4),
+        line_asserted: set(5),
+        priority,
+        trigger: if set(6) {
+            TriggerMode::Edge
+        } else {
+            TriggerMode::Level
+        },
+        cpu_target_mask,
+    }
+}
+
 fn main() -> io::Result<()> {
     let mut out = BufWriter::new(io::stdout().lock());
     for raw in 0..1024 {
@@ -137,28 +158,11 @@ fn main() -> io::Result<()> {
         (0xff, Some(0xa5), '7'),
     ] {
         for low in 0..128 {
-            let set = |place: u32| low >> place & 1 == 1;
-            let start = Parts {
-                intid: IntId::new(32).unwrap(),
-                enabled: set(0),
-                pending: set(1),
-                active: set(2),
-                inflight: set(3),
-                redelivery_pending: set(4),
-                line_asserted: set(5),
-                priority: Priority(priority),
-                trigger: if set(6) {
-                    TriggerMode::Edge
-                } else {
-                    TriggerMode::Level
-                },
-                cpu_target_mask: mask,
-            };
             Row {
                 out: &mut out,
                 owner,
             }
-            .all(&start)?;
+            .all(&start(low, Priority(priority), mask))?;
         }
     }
     out.flush()

@@ -5,7 +5,9 @@ use crate::{
     RegisterRegion::{self, CpuInterface, Distributor},
     access, invariants, lines,
     machine::{Answer, Call, SPURIOUS},
+    redistributor::RedistributorState,
     register::*,
+    registers::Interrupt,
     scripts::steps::{CPU_INTERFACE, DISTRIBUTOR},
 };
 use std::collections::BTreeMap;
@@ -176,56 +178,51 @@ fn note_call(tally: &mut Tally, call: &Call, answer: &Answer) {
 
 fn note_state(tally: &mut Tally, gic: &GicV3Controller) {
     let state = gic.state();
-    let stacks: Vec<Vec<IntId>> = state
-        .redistributors
-        .iter()
-        .map(|(_, own)| {
-            own.cpu_interface()
-                .active()
-                .iter()
-                .map(|entry| entry.0)
-                .collect()
-        })
-        .collect();
-    let times = |stack: &Vec<IntId>, it: &IntId| stack.iter().filter(|other| *other == it).count();
-    let on = |it: &IntId| stacks.iter().filter(|stack| stack.contains(it)).count();
-    for stack in &stacks {
-        tally.note(format!("depth {}", stack.len()));
-        if stack.iter().any(|it| times(stack, it) > 1) {
-            tally.note("a number on one stack twice");
-        }
-        if stack
-            .iter()
-            .any(|it| matches!(it, IntId::Spi(_)) && on(it) > 1)
-        {
-            tally.note("a number on two stacks");
-        }
-    }
-    for (_, own) in &state.redistributors {
-        if own.private[..16].iter().any(|it| match it.record.intid() {
-            IntId::Sgi(sgi) => own.sgi_sources(sgi).count_ones() >= 3,
-            _ => false,
-        }) {
+    let vcpus = || state.redistributors.iter().map(|(_, own)| own);
+    note_stacks(tally, &vcpus().map(served).collect::<Vec<_>>());
+    for own in vcpus() {
+        if own.sources.iter().any(|set| set.count_ones() >= 3) {
             tally.note("an SGI from three at once");
         }
     }
-    let private = state
-        .redistributors
-        .iter()
-        .flat_map(|(_, own)| &own.private);
+    let private = vcpus().flat_map(|own| &own.private);
     for it in private.chain(&state.distributor.spis) {
-        let parts = access::parts(&it.record);
-        if parts.redelivery_pending {
-            tally.note("redelivery noted");
+        note_interrupt(tally, it);
+    }
+}
+
+fn served(own: &RedistributorState) -> Vec<IntId> {
+    let entries = own.cpu_interface().active().iter();
+    entries.map(|entry| entry.0).collect()
+}
+
+fn note_stacks(tally: &mut Tally, stacks: &[Vec<IntId>]) {
+    for stack in stacks {
+        tally.note(format!("depth {}", stack.len()));
+        let times = |it: &IntId| stack.iter().filter(|other| *other == it).count();
+        if stack.iter().any(|it| times(it) > 1) {
+            tally.note("a number on one stack twice");
         }
-        if parts.line_asserted && parts.inflight {
-            tally.note("line high, in flight");
+        let on = |it: &IntId| stacks.iter().filter(|stack| stack.contains(it)).count();
+        let shared = |it: &&IntId| matches!(it, IntId::Spi(_));
+        if stack.iter().filter(shared).any(|it| on(it) > 1) {
+            tally.note("a number on two stacks");
         }
-        if let (Some(owner), Some(mask)) = (it.owner, parts.cpu_target_mask)
-            && mask & 1 << owner.raw() == 0
-        {
-            tally.note("served by a vCPU that is no target");
-        }
+    }
+}
+
+fn note_interrupt(tally: &mut Tally, it: &Interrupt) {
+    let parts = access::parts(&it.record);
+    if parts.redelivery_pending {
+        tally.note("redelivery noted");
+    }
+    if parts.line_asserted && parts.inflight {
+        tally.note("line high, in flight");
+    }
+    if let (Some(owner), Some(mask)) = (it.owner, parts.cpu_target_mask)
+        && mask & 1 << owner.raw() == 0
+    {
+        tally.note("served by a vCPU that is no target");
     }
 }
 
