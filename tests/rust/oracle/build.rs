@@ -17,10 +17,7 @@ const PATCH: &str = r#"        // PATCH (the only one): document 01 and IHI 0048
 "#;
 
 fn main() {
-    let interrupt = source::read("src/interrupt.rs");
-    let interrupt = source::with_access(&interrupt, "../interrupt/src/access.rs");
-    source::module("interrupt", &interrupt);
-
+    source::interrupt_module();
     let v2 = source::read("src/controller/v2.rs");
     let v2 = source::patched(&v2, "acknowledge_v2", BEFORE, PATCH)
         .unwrap_or_else(|why| panic!("v2.rs is not the file that the patch is for: {why}"));

@@ -1,21 +1,6 @@
 //! Below interrupt.rs: a record's fields, to make a record in any state and to read the flags that it has no accessor for.
 use super::InterruptRecord;
-use crate::{IntId, Priority, TriggerMode};
-
-/// Everything but the route, which is left out.
-#[derive(Clone, Copy, PartialEq, Eq)]
-pub(crate) struct Parts {
-    pub intid: IntId,
-    pub enabled: bool,
-    pub pending: bool,
-    pub active: bool,
-    pub inflight: bool,
-    pub redelivery_pending: bool,
-    pub line_asserted: bool,
-    pub priority: Priority,
-    pub trigger: TriggerMode,
-    pub cpu_target_mask: Option<u8>,
-}
+use types::Parts;
 
 pub(crate) fn make(parts: &Parts) -> InterruptRecord {
     InterruptRecord {

@@ -9,7 +9,8 @@ mod file {
     include!(concat!(env!("OUT_DIR"), "/interrupt_root.rs"));
     pub(crate) use interrupt::{InterruptRecord, access};
 }
-use file::{InterruptRecord, access, access::Parts};
+use file::{InterruptRecord, access};
+use types::Parts;
 
 /// One line of results. The Rust has no owner in the record: what the line starts with stays.
 struct Row<'a, W: Write> {

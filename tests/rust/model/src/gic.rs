@@ -65,11 +65,11 @@ impl Gic {
         let mut records = Vec::new();
         for _ in 0..count {
             for id in 0..32 {
-                records.push(Record::new(id < 16));
+                records.push(Record::new(id));
             }
         }
-        for _ in 32..limit {
-            records.push(Record::new(false));
+        for id in 32..limit {
+            records.push(Record::new(id));
         }
         Gic {
             count,
@@ -98,12 +98,12 @@ impl Gic {
     }
 
     fn better(&self, v: u64, r: &Record, best: Option<Best>) -> bool {
-        if (r.priority as u64) >= self.pmr[v as usize] {
+        if u64::from(r.priority()) >= self.pmr[v as usize] {
             return false;
         }
         match best {
             None => true,
-            Some(b) => r.priority < b.priority,
+            Some(b) => r.priority() < b.priority,
         }
     }
 
@@ -116,7 +116,7 @@ impl Gic {
                 let r = &self.records[self.slot(v, id)];
                 if r.offered() && self.better(v, r, best[v as usize]) {
                     best[v as usize] = Some(Best {
-                        priority: r.priority,
+                        priority: r.priority(),
                         id,
                     });
                 }
@@ -127,12 +127,12 @@ impl Gic {
             if !r.offered() {
                 continue;
             }
-            let mask = r.mask.unwrap_or(0);
+            let mask = r.mask();
             for v in 0..self.count {
                 let named = (mask >> v) & 1 == 1;
                 if named && self.better(v, r, best[v as usize]) {
                     best[v as usize] = Some(Best {
-                        priority: r.priority,
+                        priority: r.priority(),
                         id,
                     });
                 }
@@ -200,8 +200,8 @@ impl Gic {
         let before = self.outlooks();
         let slot = self.slot(v, id);
         match level {
-            Some(high) => self.records[slot].set_level(high),
-            None => self.records[slot].pulse(),
+            Some(high) => self.records[slot].file.set_level(high),
+            None => self.records[slot].file.pulse(),
         }
         let mut answer = gives(0);
         answer.wake = self.woken(before);

@@ -1,6 +1,11 @@
 //! A second writing of document 01's rules, made without sight of v2.rs: records in a Vec, plain loops. It answers the runner's lines as
 //! the oracle must, and has the same state after each, so that a mistake in the oracle's stand-in shows as a difference.
+//!
+//! The record's transitions are interrupt.rs's own, as document 01 asks.
 pub mod gic;
 pub mod lines;
 pub mod place;
 pub mod record;
+
+// What interrupt.rs takes from its crate's root.
+pub use types::{GicAffinity, IntId, InterruptState, Priority, TriggerMode};

@@ -1,10 +1,9 @@
 //! Demand 3 of the mission, on a state as it stands, and with it the rest of request One's lawful state, which makes it last.
 use crate::{
-    GicV3Controller, GicVcpuId, Priority, SgiId, TriggerMode,
-    access::{self, Parts},
-    redistributor::RedistributorState,
-    registers::Interrupt,
+    GicV3Controller, GicVcpuId, Priority, SgiId, TriggerMode, access,
+    redistributor::RedistributorState, registers::Interrupt,
 };
+use types::Parts;
 
 /// The first property that does not hold.
 pub(crate) fn broken(gic: &GicV3Controller) -> Option<String> {

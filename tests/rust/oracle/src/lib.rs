@@ -1,8 +1,8 @@
 //! The oracle: v2.rs and interrupt.rs, running over a stand-in for what they call without containing it.
 //!
-//! The modules down to `cpu_interface` are the stand-in, by document 01's rules and under the names that the two files use. `machine`
-//! makes calls of the running files and answers by document 01's numbers; `lines` is the runner's protocol over it; `scripts` makes
-//! histories.
+//! `controller`, `cpu_interface`, `distributor`, `redistributor` and `registers` are the stand-in, by document 01's rules and under the
+//! names that the two files use. `machine` makes calls of the running files and answers by document 01's numbers; `lines` is the runner's
+//! protocol over it; `scripts` makes histories.
 extern crate alloc;
 extern crate self as axvm_types;
 

@@ -72,9 +72,9 @@ impl Call {
         matches!(self, Self::Read(_))
     }
 
-    /// Every read but an acknowledge.
-    fn is_plain_read(&self) -> bool {
-        self.is_read() && !self.is_acknowledge()
+    /// Of reads only an acknowledge that gives a number may change anything.
+    fn may_change(&self, value: u64) -> bool {
+        !self.is_read() || self.is_acknowledge() && value != u64::from(SPURIOUS)
     }
 
     /// What an acknowledge gave, if it gave a number.
@@ -143,7 +143,7 @@ fn perform(gic: &GicV3Controller, call: &Call) -> VgicResult<u64> {
     }
 }
 
-/// The answer, unless a refused call or a plain read has changed something.
+/// The answer, unless something has changed or retired that must not.
 fn settle(
     call: &Call,
     outcome: VgicResult<u64>,
@@ -151,10 +151,12 @@ fn settle(
     after: &GicV3Controller,
 ) -> Result<Answer, Fault> {
     let retired = after.take_retired();
-    let unchanged = *after.state() == *before.state() && retired.is_none();
-    if !unchanged && (outcome.is_err() || call.is_plain_read()) {
+    let may_change = outcome.as_ref().is_ok_and(|value| call.may_change(*value));
+    let may_retire = may_change && !call.is_read();
+    let changed = *after.state() != *before.state();
+    if changed && !may_change || retired.is_some() && !may_retire {
         return Err(Fault(format!(
-            "{call:?} has changed the state, and was answered {outcome:?}"
+            "{call:?} has changed the state or retired {retired:?}, and was answered {outcome:?}"
         )));
     }
     Ok(match outcome {

@@ -1,5 +1,8 @@
-//! For build scripts: finds the Rust files where they lie and makes them modules of a program. Nothing of them is copied into the tree.
-use std::{env, fs, path::PathBuf};
+//! For build scripts: finds the Rust files where they lie and makes them modules of a program. The files are not copied into the tree.
+use std::{
+    env, fs,
+    path::{Path, PathBuf},
+};
 
 /// The text of a file of arm_vgic, such as `src/interrupt.rs`, below `ARM_VGIC_SRC` or beside the repository.
 pub fn read(name: &str) -> String {
@@ -21,9 +24,15 @@ pub fn module(name: &str, text: &str) {
 }
 
 /// `text` as it is, with a declaration after its end of our file `below` as the module `access`, which sees what is private in `text`.
-pub fn with_access(text: &str, below: &str) -> String {
-    let access = PathBuf::from(env::var("CARGO_MANIFEST_DIR").unwrap()).join(below);
-    format!("{text}\n#[path = {access:?}]\npub(crate) mod access;\n")
+pub fn with_access(text: &str, below: &Path) -> String {
+    format!("{text}\n#[path = {below:?}]\npub(crate) mod access;\n")
+}
+
+/// Makes interrupt.rs a module: its text as it is, and below it our `access`, which makes and reads a record's private fields.
+pub fn interrupt_module() {
+    let below = Path::new(env!("CARGO_MANIFEST_DIR")).join("../interrupt/src/access.rs");
+    let text = read("src/interrupt.rs");
+    module("interrupt", &with_access(&text, &below));
 }
 
 /// `text` with `lines` put before its only occurrence of `place`, which must stand in the function `name`.

@@ -155,3 +155,18 @@ pub enum SgiTarget {
     AllExceptSelf,
     SelfOnly,
 }
+
+/// The fields of a record, which interrupt.rs keeps private. Everything but the route, which is left out.
+#[derive(Clone, Copy, Debug, PartialEq, Eq)]
+pub struct Parts {
+    pub intid: IntId,
+    pub enabled: bool,
+    pub pending: bool,
+    pub active: bool,
+    pub inflight: bool,
+    pub redelivery_pending: bool,
+    pub line_asserted: bool,
+    pub priority: Priority,
+    pub trigger: TriggerMode,
+    pub cpu_target_mask: Option<u8>,
+}

@@ -1,6 +1,9 @@
 //! The CPU interface's registers: acknowledge, end, deactivate.
 use super::{Answer, Gic, IIDR, Outlook, SPURIOUS, gives, refused};
-use crate::place::{bad_span, cut};
+use crate::{
+    InterruptState,
+    place::{bad_span, cut},
+};
 
 const CPU_FRAME: u64 = 0x2000;
 const FIRST_UNDECODABLE: u64 = 1020;
@@ -56,10 +59,11 @@ impl Gic {
         let id = best.unwrap().id;
         let slot = self.slot(v, id);
         let r = &mut self.records[slot];
-        r.inflight = true;
+        r.file.mark_inflight();
         r.owner = Some(v);
-        r.synchronize_inflight_active();
-        self.stack[v as usize].push((id, r.priority));
+        r.file.synchronize_inflight(InterruptState::Active);
+        let priority = r.priority();
+        self.stack[v as usize].push((id, priority));
         if id < 16 {
             gives(id + 1024 * self.take_source(v, id))
         } else {
@@ -80,7 +84,7 @@ impl Gic {
         self.sources[at] &= !(1 << lowest);
         if self.sources[at] != 0 {
             let slot = self.slot(v, id);
-            self.records[slot].set_pending(true);
+            self.records[slot].file.set_pending(true);
         }
         lowest
     }
@@ -140,14 +144,14 @@ impl Gic {
         }
         let slot = self.slot(v, id);
         let r = &mut self.records[slot];
-        if r.inflight && r.owner == Some(v) {
-            let pending = r.pending;
-            r.deactivate_inflight(pending);
+        if r.inflight() && r.owner == Some(v) {
+            let pending = r.file.pending();
+            r.file.deactivate_inflight(pending);
             r.owner = None;
             return id;
         }
-        if r.active && !r.inflight {
-            r.complete();
+        if r.file.active() && !r.inflight() {
+            r.file.complete();
         }
         SPURIOUS
     }

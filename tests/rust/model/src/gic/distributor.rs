@@ -1,6 +1,9 @@
 //! The Distributor's registers.
 use super::{Answer, Gic, IIDR, gives, refused};
-use crate::place::{Bit, Place, bad_span, cut, dist_place};
+use crate::{
+    Priority,
+    place::{Bit, Place, bad_span, cut, dist_place},
+};
 
 const DIST_FRAME: u64 = 0x1000;
 
@@ -65,9 +68,9 @@ impl Gic {
             let r = &self.records[self.slot(v, id)];
             let set = match bit {
                 Bit::Group => false,
-                Bit::SetEnable | Bit::ClearEnable => r.enabled,
-                Bit::SetPend | Bit::ClearPend => r.pending,
-                Bit::SetActive | Bit::ClearActive => r.active,
+                Bit::SetEnable | Bit::ClearEnable => r.file.enabled(),
+                Bit::SetPend | Bit::ClearPend => r.file.pending(),
+                Bit::SetActive | Bit::ClearActive => r.file.active(),
             };
             value |= (set as u64) << i;
         }
@@ -78,7 +81,7 @@ impl Gic {
         let mut value = 0;
         for i in 0..16 {
             let id = first + i;
-            if id < self.limit && self.records[self.slot(v, id)].edge {
+            if id < self.limit && self.records[self.slot(v, id)].is_edge() {
                 value |= 1 << (2 * i + 1);
             }
         }
@@ -93,7 +96,7 @@ impl Gic {
                 if id >= self.limit {
                     0
                 } else {
-                    self.records[self.slot(v, id)].priority
+                    self.records[self.slot(v, id)].priority()
                 }
             }
             Place::Target(first) => {
@@ -103,7 +106,7 @@ impl Gic {
                 } else if id >= self.limit {
                     0
                 } else {
-                    self.records[self.slot(0, id)].mask.unwrap_or(0)
+                    self.records[self.slot(0, id)].mask()
                 }
             }
             Place::ClearSgi(first) | Place::SetSgi(first) => {
@@ -154,16 +157,16 @@ impl Gic {
             let r = &mut self.records[slot];
             match bit {
                 Bit::Group => {}
-                Bit::SetEnable => r.set_enabled(true),
-                Bit::ClearEnable => r.set_enabled(false),
-                Bit::SetPend if id >= 16 => r.set_pending(true),
-                Bit::ClearPend if id >= 16 => r.set_pending(false),
+                Bit::SetEnable => r.file.set_enabled(true),
+                Bit::ClearEnable => r.file.set_enabled(false),
+                Bit::SetPend if id >= 16 => r.file.set_pending(true),
+                Bit::ClearPend if id >= 16 => r.file.set_pending(false),
                 Bit::SetPend | Bit::ClearPend => {}
-                Bit::SetActive => r.set_active(true),
+                Bit::SetActive => r.file.set_active(true),
                 Bit::ClearActive => {
-                    r.set_active(false);
-                    if r.inflight {
-                        r.cancel_inflight();
+                    r.file.set_active(false);
+                    if r.inflight() {
+                        r.file.cancel_inflight();
                         r.owner = None;
                     }
                 }
@@ -178,7 +181,7 @@ impl Gic {
                 continue;
             }
             let slot = self.slot(v, id);
-            self.records[slot].edge = (value >> (2 * i + 1)) & 1 == 1;
+            self.records[slot].set_edge((value >> (2 * i + 1)) & 1 == 1);
         }
     }
 
@@ -189,7 +192,7 @@ impl Gic {
                 let id = first + i;
                 if id < self.limit {
                     let slot = self.slot(v, id);
-                    self.records[slot].priority = byte;
+                    self.records[slot].file.set_priority(Priority(byte));
                 }
             }
             Place::Target(first) => {
@@ -197,7 +200,8 @@ impl Gic {
                 if id >= 32 && id < self.limit {
                     let slot = self.slot(0, id);
                     let existing = (1u64 << self.count) - 1;
-                    self.records[slot].mask = Some(byte & existing as u8);
+                    let mask = byte & existing as u8;
+                    self.records[slot].file.set_cpu_target_mask(mask);
                 }
             }
             Place::ClearSgi(first) => {
@@ -219,7 +223,7 @@ impl Gic {
         let at = self.source_slot(v, id);
         self.sources[at] = left;
         let slot = self.slot(v, id);
-        self.records[slot].set_pending(left != 0);
+        self.records[slot].file.set_pending(left != 0);
     }
 
     fn write_sgir(&mut self, sender: u64, value: u64) {
@@ -237,7 +241,7 @@ impl Gic {
                 let at = self.source_slot(t, id);
                 self.sources[at] |= 1 << sender;
                 let slot = self.slot(t, id);
-                self.records[slot].set_pending(true);
+                self.records[slot].file.set_pending(true);
             }
         }
     }

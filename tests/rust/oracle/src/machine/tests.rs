@@ -110,7 +110,7 @@ fn ending_a_number_from_the_limit_up_pops_it_and_no_more() {
 }
 
 #[test]
-fn a_refused_call_or_a_plain_read_that_changed_the_state_is_a_fault() {
+fn what_must_not_change_the_state_and_has_is_a_fault() {
     let before = GicV3Controller::new(1, 32);
     let (same, after) = (before.clone(), before.clone());
     let write = lines::parse(b"D 0 0 4 1").unwrap();
@@ -127,8 +127,10 @@ fn a_refused_call_or_a_plain_read_that_changed_the_state_is_a_fault() {
     assert!(settled("D 0 0 4 1", refused(), &after).is_err());
     assert!(settled("d 0 0 4", Ok(0), &after).is_err());
     assert!(settled("c 0 24 4", Ok(0), &after).is_err());
+    assert!(settled("c 0 12 4", Ok(1023), &after).is_err());
     assert!(settled("D 0 0 4 1", Ok(0), &after).is_ok());
     assert!(settled("c 0 12 4", Ok(0), &after).is_ok());
     assert!(settled("d 0 0 1", refused(), &same).is_ok());
     assert!(settled("d 0 0 4", Ok(0), &same).is_ok());
+    assert!(settled("c 0 12 4", Ok(1023), &same).is_ok());
 }

@@ -8,45 +8,17 @@ use super::{
     tests::{LINES, SEEDS},
 };
 use crate::{
-    GicV3Controller, GicVcpuId, IntId, Priority, TriggerMode,
-    access::{self, Parts},
+    GicV3Controller, GicVcpuId, IntId, Priority, TriggerMode, access,
     controller::state::State,
     lines,
     machine::{Call, Machine},
     redistributor::RedistributorState,
-    registers::Interrupt,
 };
 use model::{gic::Gic, lines::answer_line, record::Record};
+use types::Parts;
 
-/// A record in both writings' terms: enabled, pending, active, in flight, redelivery noted, line, edge; priority; mask; owner.
-type Shown = ([bool; 7], u8, Option<u8>, Option<u64>);
-
-fn of_oracle(it: &Interrupt) -> Shown {
-    let parts = access::parts(&it.record);
-    let flags = [
-        parts.enabled,
-        parts.pending,
-        parts.active,
-        parts.inflight,
-        parts.redelivery_pending,
-        parts.line_asserted,
-        parts.trigger == TriggerMode::Edge,
-    ];
-    let owner = it.owner.map(|vcpu| vcpu.raw() as u64);
-    (flags, parts.priority.raw(), parts.cpu_target_mask, owner)
-}
-
-fn of_model(r: &Record) -> Shown {
-    let flags = [
-        r.enabled,
-        r.pending,
-        r.active,
-        r.inflight,
-        r.redelivery,
-        r.line,
-        r.edge,
-    ];
-    (flags, r.priority, r.mask, r.owner)
+fn number(vcpu: GicVcpuId) -> u64 {
+    vcpu.raw() as u64
 }
 
 fn assert_same_state(gic: &GicV3Controller, second: &Gic) {
@@ -57,8 +29,9 @@ fn assert_same_state(gic: &GicV3Controller, second: &Gic) {
         .redistributors
         .iter()
         .flat_map(|(_, own)| &own.private);
-    let records = private.chain(&state.distributor.spis).map(of_oracle);
-    assert!(records.eq(second.records.iter().map(of_model)));
+    let all = private.chain(&state.distributor.spis);
+    let shown = all.map(|it| (access::parts(&it.record), it.owner.map(number)));
+    assert!(shown.eq(second.records.iter().map(|r| (r.parts(), r.owner))));
     for (vcpu, (_, own)) in state.redistributors.iter().enumerate() {
         assert_same_interface(own, second, vcpu);
     }
@@ -99,55 +72,24 @@ fn the_second_writing_has_the_same_answer_and_state_after_every_line() {
     }
 }
 
-fn to_oracle(intid: IntId, shown: &Shown) -> Interrupt {
-    let (flags, priority, cpu_target_mask, owner) = *shown;
+/// Any record at all, also such as no history reaches, and any owner.
+fn any_record(random: &mut Random, intid: IntId) -> (Parts, Option<u64>) {
+    let bits = random.number();
+    let set = |place: u32| bits >> place & 1 == 1;
+    let priority = random.pick(&[0, 0x7f, 0x80, 0xfe, 0xff, (bits >> 16) as u8]);
     let parts = Parts {
         intid,
-        enabled: flags[0],
-        pending: flags[1],
-        active: flags[2],
-        inflight: flags[3],
-        redelivery_pending: flags[4],
-        line_asserted: flags[5],
-        trigger: if flags[6] {
-            TriggerMode::Edge
-        } else {
-            TriggerMode::Level
-        },
+        enabled: set(0),
+        pending: set(1),
+        active: set(2),
+        inflight: set(3),
+        redelivery_pending: set(4),
+        line_asserted: set(5),
         priority: Priority(priority),
-        cpu_target_mask,
+        trigger: random.pick(&[TriggerMode::Level, TriggerMode::Edge]),
+        cpu_target_mask: random.percent(70).then_some((bits >> 8) as u8),
     };
-    Interrupt {
-        record: access::make(&parts),
-        owner: owner.map(|vcpu| GicVcpuId::new(vcpu as usize)),
-    }
-}
-
-fn to_model(shown: &Shown) -> Record {
-    let (flags, priority, mask, owner) = *shown;
-    let [enabled, pending, active, inflight, redelivery, line, edge] = flags;
-    Record {
-        enabled,
-        pending,
-        active,
-        inflight,
-        redelivery,
-        line,
-        edge,
-        priority,
-        mask,
-        owner,
-    }
-}
-
-/// Any record at all, also such as no history reaches.
-fn any_record(random: &mut Random) -> Shown {
-    let bits = random.number();
-    let flags = std::array::from_fn(|place| bits >> place & 1 == 1);
-    let priority = random.pick(&[0, 0x7f, 0x80, 0xfe, 0xff, (bits >> 16) as u8]);
-    let mask = random.percent(70).then_some((bits >> 8) as u8);
-    let owner = random.percent(70).then_some(random.below(9));
-    (flags, priority, mask, owner)
+    (parts, random.percent(70).then_some(random.below(9)))
 }
 
 /// Puts both into one state, whatever it is.
@@ -158,9 +100,10 @@ fn scramble(random: &mut Random, state: &mut State, second: &mut Gic) {
     let private = vcpus.flat_map(|(_, own)| &mut own.private);
     let all = private.chain(&mut state.distributor.spis);
     for (it, record) in all.zip(&mut second.records) {
-        let shown = any_record(random);
-        *it = to_oracle(it.record.intid(), &shown);
-        *record = to_model(&shown);
+        let (parts, owner) = any_record(random, it.record.intid());
+        it.record = access::make(&parts);
+        it.owner = owner.map(|vcpu| GicVcpuId::new(vcpu as usize));
+        *record = Record::make(&parts, owner);
     }
     for (vcpu, (_, own)) in state.redistributors.iter_mut().enumerate() {
         scramble_interface(random, own, second, vcpu);
