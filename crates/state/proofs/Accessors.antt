@@ -1,0 +1,154 @@
+-- Reading and writing the slots of a state: what was put is read back, every other slot stays, words past the size stay, and a state as
+-- we write it stays one. Stated over the slot, so once for every kind. Assumes nothing.
+use mathlib.Core.Path.{_≡_, refl, sym, ap, _∙_, subst}
+use mathlib.Core.Bool.{Bool, true, false, cond}
+use mathlib.Core.List.{List}
+use Prim.Native.Nat.{ℕ, _+_, _*_, _-_, _/_, _%_, _^_, _≤_, _<_}
+use native.Mathlib.Omega.{arith}
+use native.Mathlib.Nat.{mod-eq-of-lt}
+use lib.Dec.{eqb, ltb}
+use lib.ListN.{length, getD, set, drop, length-set}
+use lib.Seq.{getD-set-same, getD-set-other, set-set, set-comm, drop-set-lt}
+use borrow.Author.Tests.{lt-ltb, le-ltb, ltb-true, ltb-false, eqb-true, eqb-false}
+use Rattle.interrupt.specs.declared.record.InterruptRecord.{InterruptRecord}
+use Rattle.word.specs.Word.{bitOf, recordOf, wordOf, InRange}
+use Rattle.word.proofs.RecordWord.{decode-encode, encoded-canonical}
+use Rattle.state.specs.declared.layout.Shape.{Shape}
+use Rattle.state.specs.declared.layout.InterfaceValue.{InterfaceValue}
+use Rattle.state.specs.declared.layout.InterfaceValue.the-variants.{Control, PriorityMask, BinaryPoint, Depth}
+use Rattle.state.specs.declared.words.Entry.{Entry}
+use Rattle.state.specs.Layout.{Slot, Count, Limit, DistributorControl, Interface, Sources, Private, Spi, Stack, size, place, Exists, Limits, Room}
+use Rattle.state.specs.Words.{wordAt, put, recordSlot, RecordThere, recordAt, withRecord, sourcesAt, withSources, kept, interfaceAt, withInterface, enabledAt, withEnabledAt, entryOf, entryWord, entryAt, withEntry, CanonicalWord, Canonical}
+use Rattle.state.proofs.Places.{place-inside, place-apart}
+
+-- what is kept of what is kept
+kept-kept : (k : InterfaceValue) (x : ℕ) → kept k (kept k x) ≡ kept k x
+kept-kept Control x = omega arith
+kept-kept PriorityMask x = omega arith
+kept-kept BinaryPoint x = omega arith
+kept-kept Depth x = refl
+
+bit-back : (b : Bool) → eqb (bitOf b % 2) 1 ≡ b
+bit-back true = refl
+bit-back false = refl
+
+entry-back : (e : Entry) → e .intid .0 < 1024 → e .priority .0 < 256 → entryOf (entryWord e) ≡ e
+entry-back e a b =
+    let n : entryWord e % 1024 ≡ e .intid .0 = omega arith in
+    let d : entryWord e / 1024 ≡ e .priority .0 = omega arith in
+    let p : entryWord e / 1024 % 256 ≡ e .priority .0 = rw d (mod-eq-of-lt b) in
+    λ i. record { intid = record { 0 = n i }; priority = record { 0 = p i } }
+
+module _ (shape : Shape) (s : List ℕ) where
+  pub put-length : (t : Slot) (w : ℕ) → length (put shape t w s) ≡ length s
+  put-length t w = length-set s (place shape t) w
+
+  pub put-room : (t : Slot) (w : ℕ) → Room shape s → Room shape (put shape t w s)
+  put-room t w h = record { limits = h .limits; room = rw (put-length t w) (h .room) }
+
+  -- the same slot
+  pub put-same : (t : Slot) (w : ℕ) → Room shape s → Exists shape t → wordAt shape t (put shape t w s) ≡ w
+  put-same t w h e =
+      let inside : place shape t < size shape = place-inside shape t (h .limits) e in
+      getD-set-same s (place shape t) w 0 (omega arith)
+
+  -- another slot, of the same kind or of another
+  pub put-other : (t u : Slot) (w : ℕ) → Exists shape t → Exists shape u → (t ≡ u → ⊥) → wordAt shape t (put shape u w s) ≡ wordAt shape t s
+  put-other t u w et eu apart = getD-set-other s (place shape u) (place shape t) w 0 (λ p. apart (place-apart shape t u et eu p))
+
+  -- the words past the size
+  pub put-past : (t : Slot) (w : ℕ) → Limits shape → Exists shape t → drop (size shape) (put shape t w s) ≡ drop (size shape) s
+  put-past t w l e = drop-set-lt (size shape) s (place shape t) w (place-inside shape t l e)
+
+  -- the later of two counts, and at two slots the order does not
+  pub put-put : (t : Slot) (w x : ℕ) → put shape t x (put shape t w s) ≡ put shape t x s
+  put-put t w x = set-set s (place shape t) w x
+
+  pub put-comm : (t u : Slot) (w x : ℕ) → Exists shape t → Exists shape u → (t ≡ u → ⊥) → put shape u x (put shape t w s) ≡ put shape t w (put shape u x s)
+  put-comm t u w x et eu apart = set-comm s (place shape t) (place shape u) w x (λ p. apart (place-apart shape t u et eu p))
+
+  -- a slot is the one that was put, or another
+  same-or-other {ℓ} : {X : Type ℓ} (t u : Slot) → Exists shape t → Exists shape u → (t ≡ u → X) → ((t ≡ u → ⊥) → X) → X
+  same-or-other {X = X} t u et eu same other = go (eqb (place shape t) (place shape u)) refl
+    where
+      go : (b : Bool) → eqb (place shape t) (place shape u) ≡ b → X
+      go true e = same (place-apart shape t u et eu (eqb-true (place shape t) (place shape u) e))
+      go false e = other (λ p. eqb-false (place shape t) (place shape u) e (ap (place shape) p))
+
+  -- words as we write them stay so
+  pub put-written : (u : Slot) (w : ℕ) → Room shape s → Exists shape u → CanonicalWord u w
+      → ((t : Slot) → Exists shape t → CanonicalWord t (wordAt shape t s))
+      → (t : Slot) → Exists shape t → CanonicalWord t (wordAt shape t (put shape u w s))
+  put-written u w h eu cw all t et =
+      same-or-other t u et eu
+      (λ p. subst (λ (x : Slot). CanonicalWord x (wordAt shape x (put shape u w s))) (sym p) (rw (put-same u w h eu) cw))
+      (λ apart. rw (put-other t u w et eu apart) (all t et))
+
+  -- a record, a source set, an interface value, the Distributor's enable bit, a stack entry: what was written is read back
+  pub record-same : (v n : ℕ) (r : InterruptRecord) → Room shape s → Exists shape (recordSlot v n) → InRange r
+      → recordAt shape v n (withRecord shape v n r s) ≡ r
+  record-same v n r h e i = rw (put-same (recordSlot v n) (wordOf r) h e) (decode-encode r i)
+
+  pub sources-same : (v n x : ℕ) → Room shape s → Exists shape (Sources v n) → x < 256 → sourcesAt shape v n (withSources shape v n x s) ≡ x
+  sources-same v n x h e b = rw (put-same (Sources v n) x h e) (mod-eq-of-lt b)
+
+  pub interface-same : (v : ℕ) (k : InterfaceValue) (x : ℕ) → Room shape s → Exists shape (Interface v k)
+      → interfaceAt shape v k (withInterface shape v k x s) ≡ kept k x
+  interface-same v k x h e = rw (put-same (Interface v k) (kept k x) h e) (kept-kept k x)
+
+  pub enabled-same : (on : Bool) → Room shape s → enabledAt shape (withEnabledAt shape on s) ≡ on
+  enabled-same on h = rw (put-same DistributorControl (bitOf on) h tt) (bit-back on)
+
+  pub entry-same : (v i : ℕ) (e : Entry) → Room shape s → Exists shape (Stack v i) → e .intid .0 < 1024 → e .priority .0 < 256
+      → entryAt shape v i (withEntry shape v i e s) ≡ e
+  entry-same v i e h x a b = rw (put-same (Stack v i) (entryWord e) h x) (entry-back e a b)
+
+-- a record that is there has its slot
+pub record-exists : (shape : Shape) (v n : ℕ) → RecordThere shape v n → Exists shape (recordSlot v n)
+unfolding recordSlot
+record-exists shape v n there = go (ltb n 32) refl
+  where
+    go : (b : Bool) → ltb n 32 ≡ b → Exists shape (cond b (Private v n) (Spi n))
+    go true e = (there .banked (ltb-true n 32 e), ltb-true n 32 e)
+    go false e = (ltb-false n 32 e, there .numbered)
+
+-- the number of a record's slot
+numberOf : Slot → ℕ
+numberOf Count = 0
+numberOf Limit = 0
+numberOf DistributorControl = 0
+numberOf (Interface v k) = 0
+numberOf (Sources v n) = 0
+numberOf (Private v n) = n
+numberOf (Spi n) = n
+numberOf (Stack v i) = 0
+
+number-of-record : (v n : ℕ) → numberOf (recordSlot v n) ≡ n
+unfolding recordSlot numberOf
+number-of-record v n = go (ltb n 32)
+  where
+    go : (b : Bool) → numberOf (cond b (Private v n) (Spi n)) ≡ n
+    go true = refl
+    go false = refl
+
+-- records of two numbers have two slots
+pub records-apart : (v u n m : ℕ) → (n ≡ m → ⊥) → recordSlot v n ≡ recordSlot u m → ⊥
+records-apart v u n m apart e = apart (sym (number-of-record v n) ∙ ap numberOf e ∙ number-of-record u m)
+
+-- a record's slot is no source set's
+pub record-no-sources : (v n u m : ℕ) → recordSlot v n ≡ Sources u m → ⊥
+unfolding recordSlot
+record-no-sources v n u m = go (ltb n 32)
+  where
+    go : (b : Bool) → cond b (Private v n) (Spi n) ≡ Sources u m → ⊥
+    go true e = let z : _≡_ {A = ℕ} 0 1 = cc in omega arith
+    go false e = let z : _≡_ {A = ℕ} 0 1 = cc in omega arith
+
+-- the records that a register reaches stand side by side
+pub record-run : (shape : Shape) (v n i : ℕ) → (n < 32 → n + i < 32) → place shape (recordSlot v (n + i)) ≡ place shape (recordSlot v n) + i
+unfolding recordSlot
+record-run shape v n i together = go (ltb n 32) refl
+  where
+    go : (b : Bool) → ltb n 32 ≡ b → place shape (cond (ltb (n + i) 32) (Private v (n + i)) (Spi (n + i))) ≡ place shape (cond b (Private v n) (Spi n)) + i
+    go true e = simp (lt-ltb (n + i) 32 (together (ltb-true n 32 e))) (omega arith)
+    go false e = let h : 32 ≤ n = ltb-false n 32 e in simp (le-ltb (n + i) 32 (omega arith)) (omega arith)

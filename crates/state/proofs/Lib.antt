@@ -1,0 +1,7 @@
+-- Laws that belong to no one function.
+pub mod Accessors
+pub mod Places
+pub mod Starting
+pub mod Steps
+pub mod Tests
+pub mod Validated

@@ -1,0 +1,104 @@
+-- What setup's fill leaves: every slot as it starts, whatever stood there before; a state that passes the test and is as we write it;
+-- words past it as they were. Assumes nothing.
+use mathlib.Core.Path.{_≡_, refl, sym, ap, _∙_}
+use mathlib.Core.Bool.{Bool, true, false}
+use mathlib.Core.List.{List}
+use Prim.Native.Nat.{ℕ, zero, suc, _≤_, _<_, _^_}
+use native.Mathlib.Nat.{not-suc-le-zero}
+use native.Mathlib.Omega.{arith}
+use lib.Dec.{eqb, ltb}
+use lib.ListN.{length, getD, set, drop, length-set}
+use lib.Seq.{getD-set-same, getD-set-other, drop-set-lt}
+use borrow.Author.Tests.{eqb-true, eqb-false}
+use Rattle.interrupt.specs.Types.{isSgi, startingTrigger}
+use Rattle.interrupt.specs.Record.{newRecord, startingRecord}
+use Rattle.word.specs.Word.{wordOf, InRange}
+use Rattle.word.proofs.RecordWord.{encoded-canonical}
+use Rattle.state.specs.declared.layout.Shape.{Shape}
+use Rattle.state.specs.declared.layout.InterfaceValue.{InterfaceValue}
+use Rattle.state.specs.declared.layout.InterfaceValue.the-variants.{Control, PriorityMask, BinaryPoint, Depth}
+use Rattle.state.specs.Layout.{Slot, Count, Limit, DistributorControl, Interface, Sources, Private, Spi, Stack, size, place, Exists, Room, slotAt}
+use Rattle.state.specs.Loop.{upTo}
+use Rattle.state.specs.Words.{wordAt, kept, CanonicalWord, Canonical}
+use Rattle.state.specs.Lent.{shaped, Held}
+use Rattle.state.specs.Fresh.{startOf, startedAt, fresh}
+use Rattle.state.proofs.Places.{place-inside, slot-back}
+
+module _ (shape : Shape) (s : List ℕ) where
+  started-length : (n : ℕ) → length (upTo (startedAt shape) n s) ≡ length s
+  unfolding upTo
+  started-length zero = refl
+  started-length (suc n) = length-set (upTo (startedAt shape) n s) n (startOf shape (slotAt shape n)) ∙ started-length n
+
+  started-at : (n k : ℕ) → n ≤ length s → k < n → getD (upTo (startedAt shape) n s) k 0 ≡ startOf shape (slotAt shape k)
+  unfolding upTo
+  started-at zero k h b = absurd (not-suc-le-zero b)
+  started-at (suc n) k h b = last-or (eqb k n) refl (λ below. started-at n k (omega arith) below)
+    where
+      last-or : (t : Bool) → eqb k n ≡ t → (k < n → getD (upTo (startedAt shape) n s) k 0 ≡ startOf shape (slotAt shape k))
+          → getD (set (upTo (startedAt shape) n s) n (startOf shape (slotAt shape n))) k 0 ≡ startOf shape (slotAt shape k)
+      last-or true p before =
+          let e : k ≡ n = eqb-true k n p in
+          rw e (getD-set-same (upTo (startedAt shape) n s) n (startOf shape (slotAt shape n)) 0 (rw (started-length n) h))
+      last-or false p before =
+          let d : k ≡ n → ⊥ = eqb-false k n p in
+          getD-set-other (upTo (startedAt shape) n s) n k (startOf shape (slotAt shape n)) 0 d ∙ before (omega arith)
+
+  started-past : (n m : ℕ) → n ≤ m → drop m (upTo (startedAt shape) n s) ≡ drop m s
+  unfolding upTo
+  started-past zero m h = refl
+  started-past (suc n) m h = drop-set-lt m (upTo (startedAt shape) n s) n (startOf shape (slotAt shape n)) h ∙ started-past n m (omega arith)
+
+  pub fresh-length : length (fresh shape s) ≡ length s
+  unfolding fresh
+  fresh-length = started-length (size shape)
+
+  pub fresh-room : Room shape s → Room shape (fresh shape s)
+  fresh-room h = record { limits = h .limits; room = rw fresh-length (h .room) }
+
+  pub fresh-past : drop (size shape) (fresh shape s) ≡ drop (size shape) s
+  unfolding fresh
+  fresh-past = started-past (size shape) (size shape) (omega arith)
+
+  -- nothing of the old words is left in the state
+  pub fresh-at : (k : ℕ) → Room shape s → k < size shape → getD (fresh shape s) k 0 ≡ startOf shape (slotAt shape k)
+  unfolding fresh
+  fresh-at k h b = started-at (size shape) k (h .room) b
+
+  pub fresh-word : (t : Slot) → Room shape s → Exists shape t → wordAt shape t (fresh shape s) ≡ startOf shape t
+  fresh-word t h e = fresh-at (place shape t) h (place-inside shape t (h .limits) e) ∙ ap (startOf shape) (slot-back shape t e)
+
+  -- a fresh state passes the test of lent words
+  pub fresh-held : Room shape s → Held shape (fresh shape s)
+  fresh-held h = record {
+    stored = λ i. record { count = sym (fresh-word Count h tt) i; limit = sym (fresh-word Limit h tt) i };
+    state = fresh-room h;
+    depths = λ v b. rw (fresh-word (Interface v Depth) h b) (omega arith);
+  }
+
+starting-in-range : (n : ℕ) → InRange (startingRecord (record { 0 = n }))
+unfolding startingRecord newRecord
+starting-in-range n = record { priority-byte = omega arith; mask-byte = omega arith; owner-byte = tt }
+
+start-kept : (k : InterfaceValue) → kept k 0 ≡ 0
+start-kept Control = refl
+start-kept PriorityMask = refl
+start-kept BinaryPoint = refl
+start-kept Depth = refl
+
+start-written : (shape : Shape) (t : Slot) → CanonicalWord t (startOf shape t)
+start-written shape Count = tt
+start-written shape Limit = tt
+start-written shape DistributorControl = omega arith
+start-written shape (Interface v k) = start-kept k
+start-written shape (Sources v n) = omega arith
+start-written shape (Private v n) = encoded-canonical (startingRecord (record { 0 = n })) (starting-in-range n)
+start-written shape (Spi n) = encoded-canonical (startingRecord (record { 0 = n })) (starting-in-range n)
+start-written shape (Stack v i) = omega arith
+
+-- .. and is as we write it
+pub fresh-canonical : (shape : Shape) (s : List ℕ) → Room shape s → Canonical shape (fresh shape s)
+fresh-canonical shape s h = record {
+  written = λ t e. rw (fresh-word shape s t h e) (start-written shape t);
+  cleared = λ v i b d l. fresh-word shape s (Stack v i) h (b, l);
+}

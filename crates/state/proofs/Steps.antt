@@ -1,0 +1,52 @@
+-- Steps taken one after another, each with slots of its own: what a step's own slots hold at the end is what that step alone makes of the
+-- start, and slots that no step has stay. So a register's write can be read field by field. Assumes nothing.
+use mathlib.Core.Path.{_≡_, refl, sym, _∙_}
+use mathlib.Core.Bool.{Bool, true, false}
+use mathlib.Core.List.{List}
+use Prim.Native.Nat.{ℕ, zero, suc, _≤_, _<_}
+use native.Mathlib.Nat.{not-suc-le-zero}
+use native.Mathlib.Omega.{arith}
+use lib.Dec.{eqb}
+use borrow.Author.Tests.{eqb-true, eqb-false}
+use Rattle.state.specs.declared.layout.Shape.{Shape}
+use Rattle.state.specs.Layout.{Slot, Exists, Room}
+use Rattle.state.specs.Loop.{upTo}
+use Rattle.state.specs.Words.{wordAt}
+
+-- two states that agree on some slots
+pub record Agree (shape : Shape) (Mine : Slot → Type 0) (s r : List ℕ) : Type 0 where
+  pub agree : (t : Slot) → Exists shape t → Mine t → wordAt shape t s ≡ wordAt shape t r
+
+-- a step with slots of its own: it leaves the others, and what it makes of its own depends on them alone
+pub record Local (shape : Shape) (Mine : Slot → Type 0) (f : List ℕ → List ℕ) : Type 0 where
+  pub room : (s : List ℕ) → Room shape s → Room shape (f s)
+  pub others : (s : List ℕ) (t : Slot) → Exists shape t → (Mine t → ⊥) → wordAt shape t (f s) ≡ wordAt shape t s
+  pub own : (s r : List ℕ) → Room shape s → Room shape r → Agree shape Mine s r → Agree shape Mine (f s) (f r)
+
+module _ (shape : Shape) (Mine : ℕ → Slot → Type 0) (f : ℕ → List ℕ → List ℕ) (steps : (i : ℕ) → Local shape (Mine i) (f i)) where
+  pub steps-room : (n : ℕ) (s : List ℕ) → Room shape s → Room shape (upTo f n s)
+  unfolding upTo
+  steps-room zero s h = h
+  steps-room (suc n) s h = steps n .room (upTo f n s) (steps-room n s h)
+
+  pub steps-others : (n : ℕ) (s : List ℕ) (t : Slot) → Exists shape t → ((i : ℕ) → i < n → Mine i t → ⊥) → wordAt shape t (upTo f n s) ≡ wordAt shape t s
+  unfolding upTo
+  steps-others zero s t e away = refl
+  steps-others (suc n) s t e away = steps n .others (upTo f n s) t e (away n (omega arith)) ∙ steps-others n s t e (λ i b. away i (omega arith))
+
+  module _ (apart : (i j : ℕ) (t : Slot) → Mine i t → Mine j t → i ≡ j) where
+    before-last : (n : ℕ) (s : List ℕ) → Agree shape (Mine n) (upTo f n s) s
+    before-last n s = record { agree = λ t e m. steps-others n s t e (λ i b mi. let p : i ≡ n = apart i n t mi m in omega arith) }
+
+    pub steps-own : (n : ℕ) (s : List ℕ) → Room shape s → (i : ℕ) → i < n → Agree shape (Mine i) (upTo f n s) (f i s)
+    unfolding upTo
+    steps-own zero s h i b = absurd (not-suc-le-zero b)
+    steps-own (suc n) s h i b = last-or (eqb i n) refl (λ below. steps-own n s h i below)
+      where
+        last-or : (t : Bool) → eqb i n ≡ t → (i < n → Agree shape (Mine i) (upTo f n s) (f i s)) → Agree shape (Mine i) (f n (upTo f n s)) (f i s)
+        last-or true p earlier =
+            let e : i ≡ n = eqb-true i n p in
+            rw e (steps n .own (upTo f n s) s (steps-room n s h) h (before-last n s))
+        last-or false p earlier =
+            let d : i ≡ n → ⊥ = eqb-false i n p in
+            record { agree = λ t e m. steps n .others (upTo f n s) t e (λ mn. d (apart i n t m mn)) ∙ earlier (omega arith) .agree t e m }

@@ -1,0 +1,39 @@
+-- Tests taken together. Assumes nothing.
+use mathlib.Core.Path.{_≡_, refl, sym, _∙_}
+use mathlib.Core.Bool.{Bool, true, false, _&&_, true≢false, false≢true}
+use Prim.Native.Nat.{ℕ, zero, suc, _≤_, _<_}
+use native.Mathlib.Nat.{not-suc-le-zero}
+use native.Mathlib.Omega.{arith}
+use lib.Dec.{eqb}
+use borrow.Author.Tests.{eqb-true, eqb-false}
+use Rattle.state.specs.Loop.{everyBelow}
+
+pub left-true : (a b : Bool) → (a && b) ≡ true → a ≡ true
+left-true true b e = refl
+left-true false b e = absurd (false≢true e)
+
+pub right-true : (a b : Bool) → (a && b) ≡ true → b ≡ true
+right-true true b e = e
+right-true false b e = absurd (false≢true e)
+
+-- all pass: each does; one fails: not all pass
+pub every-at : (f : ℕ → Bool) (n i : ℕ) → everyBelow f n ≡ true → i < n → f i ≡ true
+unfolding everyBelow
+every-at f zero i e h = absurd (not-suc-le-zero h)
+every-at f (suc n) i e h = last-or (eqb i n) refl (λ below. every-at f n i (left-true (everyBelow f n) (f n) e) below)
+  where
+    last-or : (b : Bool) → eqb i n ≡ b → (i < n → f i ≡ true) → f i ≡ true
+    last-or true p before = rw (eqb-true i n p) (right-true (everyBelow f n) (f n) e)
+    last-or false p before = let d : i ≡ n → ⊥ = eqb-false i n p in before (omega arith)
+
+pub every-fails : (f : ℕ → Bool) (n i : ℕ) → f i ≡ false → i < n → everyBelow f n ≡ false
+every-fails f n i e h = go (everyBelow f n) refl
+  where
+    go : (b : Bool) → everyBelow f n ≡ b → b ≡ false
+    go true p = absurd (true≢false (sym (every-at f n i p h) ∙ e))
+    go false p = refl
+
+pub every-true : (f : ℕ → Bool) (n : ℕ) → ((i : ℕ) → i < n → f i ≡ true) → everyBelow f n ≡ true
+unfolding everyBelow
+every-true f zero h = refl
+every-true f (suc n) h = simp (every-true f n (λ i b. h i (omega arith)), h n (omega arith))

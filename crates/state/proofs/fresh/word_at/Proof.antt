@@ -1,0 +1,66 @@
+-- `state::fresh::word_at` meets its contract. Assumes nothing.
+use mathlib.Core.Path.{_≡_}
+use native.Mathlib.Omega.{arith}
+use Rattle.state.specs.Layout.{slotAt, spiStart, stackStart}
+use borrow.Author.Tests.{lt-ltb, le-ltb}
+use borrow.Author.Needs.{needs}
+use Rattle.state.proofs.fresh.word_at.Statement.{statement}
+use Rattle.state.proofs.fresh.word_at.Tie as tie
+
+header-word-requires : tie.Need-header-word-requires
+header-word-requires c κs = search needs
+
+returns : tie.Need-returns
+unfolding slotAt
+returns c = simp (lt-ltb _ _ (c .before .if1 .taken)) (c .header-word .ensures)
+
+spi-start-requires : tie.Need-spi-start-requires
+spi-start-requires c κs = search needs
+
+vcpu-word-requires : tie.Need-vcpu-word-requires
+vcpu-word-requires c κs = search needs
+
+returns-2 : tie.Need-returns-2
+unfolding slotAt
+returns-2 c = simp (le-ltb _ _ (c .before .before .before .if1 .left), lt-ltb (c .before .before .before .before .args .at) (spiStart (c .before .before .before .before .args .shape)) (omega arith)) (c .vcpu-word .ensures _ _)
+
+stack-start-requires : tie.Need-stack-start-requires
+stack-start-requires c κs = search needs
+
+add-t10 : tie.Need-add-t10
+add-t10 c = search needs
+
+cast-t11 : tie.Need-cast-t11
+cast-t11 c = search needs
+
+starting-word-requires : tie.Need-starting-word-requires
+starting-word-requires c κs = search needs
+
+returns-3 : tie.Need-returns-3
+unfolding slotAt
+returns-3 c =
+    let a = c .before .before .before .before .before .before .args in
+    let e : c .before .before .before .before .spi-start .result ≡ spiStart (a .shape) = c .before .before .before .before .spi-start .ensures in
+    simp (le-ltb (a .at) 3 (omega arith), le-ltb (a .at) (spiStart (a .shape)) (omega arith), lt-ltb (a .at) (stackStart (a .shape)) (omega arith)) (simp e at (c .starting-word .ensures))
+
+returns-4 : tie.Need-returns-4
+unfolding slotAt
+returns-4 c =
+    let a = c .before .before .before .before .before .args in
+    simp (le-ltb (a .at) 3 (omega arith), le-ltb (a .at) (spiStart (a .shape)) (omega arith), le-ltb (a .at) (stackStart (a .shape)) (omega arith))
+
+pub word-at-spec : {M : Type 1} → statement M
+word-at-spec =
+    tie.close
+    (tie.spec
+    header-word-requires
+    returns
+    spi-start-requires
+    vcpu-word-requires
+    returns-2
+    stack-start-requires
+    add-t10
+    cast-t11
+    starting-word-requires
+    returns-3
+    returns-4)

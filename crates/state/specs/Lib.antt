@@ -1,0 +1,5 @@
+pub mod Loop
+pub mod Layout
+pub mod Words
+pub mod Lent
+pub mod Fresh

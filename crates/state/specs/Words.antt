@@ -1,0 +1,107 @@
+-- What the words of a state mean, slot by slot: "any stored bits decode to exactly one record, source set, stack entry or register value"
+-- (document 01, "Refusal numbers"). A word may have bits that count for nothing; what is written has none (`Canonical`), so that equal
+-- states are equal words.
+use mathlib.Core.Path.{_≡_}
+use mathlib.Core.Bool.{Bool, true, false, cond}
+use mathlib.Core.List.{List}
+use Prim.Native.Nat.{ℕ, _+_, _*_, _/_, _%_, _^_, _≤_, _<_}
+use lib.Dec.{eqb, ltb}
+use lib.ListN.{getD, set}
+use Rattle.interrupt.specs.declared.record.InterruptRecord.{InterruptRecord}
+use Rattle.word.specs.Word.{bitOf, recordOf, wordOf}
+use Rattle.state.specs.declared.layout.Shape.{Shape}
+use Rattle.state.specs.declared.layout.InterfaceValue.{InterfaceValue}
+use Rattle.state.specs.declared.layout.InterfaceValue.the-variants.{Control, PriorityMask, BinaryPoint, Depth}
+use Rattle.state.specs.declared.words.Entry.{Entry}
+use Rattle.state.specs.Layout.{Slot, Count, Limit, DistributorControl, Interface, Sources, Private, Spi, Stack, place, Exists, Room}
+
+abbrev pub wordAt : Shape → Slot → List ℕ → ℕ
+wordAt shape t s = getD s (place shape t) 0
+
+abbrev pub put : Shape → Slot → ℕ → List ℕ → List ℕ
+put shape t w s = set s (place shape t) w
+
+-- the record of the number n as the vCPU v meets it: below 32 each vCPU has its own
+unfoldable pub recordSlot : ℕ → ℕ → Slot
+recordSlot v n = cond (ltb n 32) (Private v n) (Spi n)
+
+-- there is such a record: its number is below the limit, and at a private number its vCPU exists
+pub record RecordThere (shape : Shape) (v n : ℕ) : Type 0 where
+  pub numbered : n < shape .limit
+  pub banked : n < 32 → v < shape .count
+
+-- words that hold such a record
+pub record Reached (shape : Shape) (v n : ℕ) (s : List ℕ) : Type 0 where
+  pub state : Room shape s
+  pub there : RecordThere shape v n
+
+abbrev pub recordAt : Shape → ℕ → ℕ → List ℕ → InterruptRecord
+recordAt shape v n s = recordOf (wordAt shape (recordSlot v n) s)
+
+abbrev pub withRecord : Shape → ℕ → ℕ → InterruptRecord → List ℕ → List ℕ
+withRecord shape v n r s = put shape (recordSlot v n) (wordOf r) s
+
+-- bit u of the source set: vCPU u has sent this SGI
+abbrev pub sourcesAt : Shape → ℕ → ℕ → List ℕ → ℕ
+sourcesAt shape v n s = wordAt shape (Sources v n) s % 256
+
+abbrev pub withSources : Shape → ℕ → ℕ → ℕ → List ℕ → List ℕ
+withSources shape v n x s = put shape (Sources v n) x s
+
+-- "CTLR .. keeps bits 0 (enable) and 9 (EOI mode). PMR .. keeps 8 bits. BPR .. 3 bits"; the depth is the whole word
+abbrev pub kept : InterfaceValue → ℕ → ℕ
+kept Control w = w % 2 + 512 * (w / 512 % 2)
+kept PriorityMask w = w % 256
+kept BinaryPoint w = w % 8
+kept Depth w = w
+
+abbrev pub interfaceAt : Shape → ℕ → InterfaceValue → List ℕ → ℕ
+interfaceAt shape v k s = kept k (wordAt shape (Interface v k) s)
+
+abbrev pub withInterface : Shape → ℕ → InterfaceValue → ℕ → List ℕ → List ℕ
+withInterface shape v k x s = put shape (Interface v k) (kept k x) s
+
+-- the Distributor's CTLR "keeps bit 0"
+abbrev pub enabledAt : Shape → List ℕ → Bool
+enabledAt shape s = eqb (wordAt shape DistributorControl s % 2) 1
+
+abbrev pub withEnabledAt : Shape → Bool → List ℕ → List ℕ
+withEnabledAt shape on s = put shape DistributorControl (bitOf on) s
+
+-- a stack entry: the number in the low 10 bits, the priority in the next 8
+abbrev pub entryOf : ℕ → Entry
+entryOf w = record { intid = record { 0 = w % 1024 }; priority = record { 0 = w / 1024 % 256 } }
+
+abbrev pub entryWord : Entry → ℕ
+entryWord e = e .intid .0 % 1024 + 1024 * e .priority .0
+
+abbrev pub entryAt : Shape → ℕ → ℕ → List ℕ → Entry
+entryAt shape v i s = entryOf (wordAt shape (Stack v i) s)
+
+abbrev pub withEntry : Shape → ℕ → ℕ → Entry → List ℕ → List ℕ
+withEntry shape v i e s = put shape (Stack v i) (entryWord e) s
+
+-- an entry that is no longer in use
+abbrev pub withoutEntry : Shape → ℕ → ℕ → List ℕ → List ℕ
+withoutEntry shape v i s = put shape (Stack v i) 0 s
+
+-- words that hold a slot
+pub record Holds (shape : Shape) (t : Slot) (s : List ℕ) : Type 0 where
+  pub state : Room shape s
+  pub exists : Exists shape t
+
+-- a word of a slot as we write it
+abbrev pub CanonicalWord : Slot → ℕ → Type 0
+CanonicalWord Count w = Unit
+CanonicalWord Limit w = Unit
+CanonicalWord DistributorControl w = w < 2
+CanonicalWord (Interface v k) w = kept k w ≡ w
+CanonicalWord (Sources v n) w = w < 256
+CanonicalWord (Private v n) w = Rattle.word.specs.Word.Canonical w
+CanonicalWord (Spi n) w = Rattle.word.specs.Word.Canonical w
+CanonicalWord (Stack v i) w = w < 2 ^ 18
+
+-- a state as we write it: each word is, and what lies past the newest entry of a stack is cleared
+pub record Canonical (shape : Shape) (s : List ℕ) : Type 0 where
+  pub written : (t : Slot) → Exists shape t → CanonicalWord t (wordAt shape t s)
+  pub cleared : (v i : ℕ) → v < shape .count → wordAt shape (Interface v Depth) s ≤ i → i < 255 → wordAt shape (Stack v i) s ≡ 0

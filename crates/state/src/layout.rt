@@ -1,0 +1,112 @@
+// Where each word of the state stands. Every place is linear in the vCPU's and the interrupt's number.
+ghost use mathlib.Core.Path.{_≡_};
+ghost use Prim.Native.Nat.{_+_, _<_, _≤_};
+ghost use Rattle.state.specs.Layout.{interfaceNumber, vcpuStart, spiStart, stackStart, size, Limits, Inside, Placed, Interface, Sources, Private, Spi, Stack};
+ghost use Rattle.state.specs.Words.{recordSlot, RecordThere};
+use interrupt::GicVcpuId;
+use interrupt::IntId;
+
+// How many vCPUs, and the first number that is no interrupt.
+pub struct Shape {
+    pub count: usize,
+    pub limit: u32,
+}
+
+// The words that a CPU interface has beside its stack. `Depth` is how many entries the stack holds.
+pub enum InterfaceValue {
+    Control,
+    PriorityMask,
+    BinaryPoint,
+    Depth,
+}
+
+impl InterfaceValue {
+    fn number(self) -> usize
+        ensures { λ r. ⌜ (r ≡ interfaceNumber self) × (r < 4) ⌝ }
+    {
+        match self {
+            InterfaceValue::Control => 0,
+            InterfaceValue::PriorityMask => 1,
+            InterfaceValue::BinaryPoint => 2,
+            InterfaceValue::Depth => 3,
+        }
+    }
+}
+
+impl Shape {
+    pub fn spi_start(self) -> usize
+        requires { ⌜ Limits self ⌝ }
+        ensures { λ r. ⌜ r ≡ spiStart self ⌝ }
+    {
+        3 + 52 * self.count
+    }
+
+    pub fn stack_start(self) -> usize
+        requires { ⌜ Limits self ⌝ }
+        ensures { λ r. ⌜ r ≡ stackStart self ⌝ }
+    {
+        3 + 52 * self.count + (self.limit - 32) as usize
+    }
+
+    // How many words a state takes.
+    pub fn size(self) -> usize
+        requires { ⌜ Limits self ⌝ }
+        ensures { λ r. ⌜ r ≡ size self ⌝ }
+    {
+        3 + 52 * self.count + (self.limit - 32) as usize + 255 * self.count
+    }
+}
+
+fn vcpu_start(vcpu: GicVcpuId) -> usize
+    requires { ⌜ vcpu .0 < 8 ⌝ }
+    ensures { λ r. ⌜ r ≡ vcpuStart (vcpu .0) ⌝ }
+{
+    3 + 52 * vcpu.0
+}
+
+pub fn interface_place(shape: Shape, vcpu: GicVcpuId, value: InterfaceValue) -> usize
+    requires { ⌜ Inside shape (Interface (vcpu .0) value) ⌝ }
+    ensures { λ r. ⌜ Placed shape (Interface (vcpu .0) value) r ⌝ }
+{
+    vcpu_start(vcpu) + value.number()
+}
+
+pub fn sources_place(shape: Shape, vcpu: GicVcpuId, sgi: IntId) -> usize
+    requires { ⌜ Inside shape (Sources (vcpu .0) (sgi .0)) ⌝ }
+    ensures { λ r. ⌜ Placed shape (Sources (vcpu .0) (sgi .0)) r ⌝ }
+{
+    vcpu_start(vcpu) + (4 + sgi.0 as usize)
+}
+
+fn private_place(shape: Shape, vcpu: GicVcpuId, intid: IntId) -> usize
+    requires { ⌜ Inside shape (Private (vcpu .0) (intid .0)) ⌝ }
+    ensures { λ r. ⌜ Placed shape (Private (vcpu .0) (intid .0)) r ⌝ }
+{
+    vcpu_start(vcpu) + (20 + intid.0 as usize)
+}
+
+fn spi_place(shape: Shape, intid: IntId) -> usize
+    requires { ⌜ Inside shape (Spi (intid .0)) ⌝ }
+    ensures { λ r. ⌜ Placed shape (Spi (intid .0)) r ⌝ }
+{
+    shape.spi_start() + (intid.0 - 32) as usize
+}
+
+// A private number has a record for each vCPU, an SPI one for all.
+pub fn record_place(shape: Shape, vcpu: GicVcpuId, intid: IntId) -> usize
+    requires { ⌜ (Limits shape) × (RecordThere shape (vcpu .0) (intid .0)) ⌝ }
+    ensures { λ r. ⌜ Placed shape (recordSlot (vcpu .0) (intid .0)) r ⌝ }
+{
+    if intid.0 < 32 {
+        private_place(shape, vcpu, intid)
+    } else {
+        spi_place(shape, intid)
+    }
+}
+
+pub fn stack_place(shape: Shape, vcpu: GicVcpuId, index: usize) -> usize
+    requires { ⌜ Inside shape (Stack (vcpu .0) index) ⌝ }
+    ensures { λ r. ⌜ Placed shape (Stack (vcpu .0) index) r ⌝ }
+{
+    shape.stack_start() + (255 * vcpu.0 + index)
+}

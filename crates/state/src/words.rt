@@ -1,0 +1,154 @@
+// What the words of a state mean, and what is written for it: two functions for each kind of slot.
+ghost use mathlib.Core.Path.{_≡_};
+ghost use Prim.Native.Nat.{_<_};
+ghost use Rattle.state.specs.Layout.{DistributorControl, Interface, Sources, Stack, Room};
+ghost use Rattle.state.specs.Words.{Reached, Holds, recordAt, withRecord, sourcesAt, withSources, kept, interfaceAt, withInterface, enabledAt, withEnabledAt, entryOf, entryWord, entryAt, withEntry, withoutEntry};
+use crate::layout::InterfaceValue;
+use crate::layout::Shape;
+use crate::layout::interface_place;
+use crate::layout::record_place;
+use crate::layout::sources_place;
+use crate::layout::stack_place;
+use interrupt::GicVcpuId;
+use interrupt::IntId;
+use interrupt::InterruptRecord;
+use interrupt::Priority;
+use word::decode;
+use word::encode;
+
+// What a vCPU has under service: an acknowledged interrupt and its priority.
+pub struct Entry {
+    pub intid: IntId,
+    pub priority: Priority,
+}
+
+pub fn record(words: &[u32], shape: Shape, vcpu: GicVcpuId, intid: IntId) -> InterruptRecord
+    requires { ⌜ Reached shape (vcpu .0) (intid .0) (now words) ⌝ }
+    ensures { λ r. ⌜ r ≡ recordAt shape (vcpu .0) (intid .0) (now (words .entry)) ⌝ }
+{
+    let at = record_place(shape, vcpu, intid);
+    decode(words[at])
+}
+
+pub fn put_record(
+    words: &mut [u32],
+    shape: Shape,
+    vcpu: GicVcpuId,
+    intid: IntId,
+    record: InterruptRecord,
+)
+    requires { ⌜ Reached shape (vcpu .0) (intid .0) (now words) ⌝ }
+    ensures { λ r. ⌜ now (words .exit) ≡ withRecord shape (vcpu .0) (intid .0) «record» (now (words .entry)) ⌝ }
+{
+    let at = record_place(shape, vcpu, intid);
+    words[at] = encode(record);
+}
+
+pub fn sgi_sources(words: &[u32], shape: Shape, vcpu: GicVcpuId, sgi: IntId) -> u8
+    requires { ⌜ Holds shape (Sources (vcpu .0) (sgi .0)) (now words) ⌝ }
+    ensures { λ r. ⌜ r ≡ sourcesAt shape (vcpu .0) (sgi .0) (now (words .entry)) ⌝ }
+{
+    let at = sources_place(shape, vcpu, sgi);
+    (words[at] % 256) as u8
+}
+
+pub fn put_sgi_sources(words: &mut [u32], shape: Shape, vcpu: GicVcpuId, sgi: IntId, sources: u8)
+    requires { ⌜ Holds shape (Sources (vcpu .0) (sgi .0)) (now words) ⌝ }
+    ensures { λ r. ⌜ now (words .exit) ≡ withSources shape (vcpu .0) (sgi .0) sources (now (words .entry)) ⌝ }
+{
+    let at = sources_place(shape, vcpu, sgi);
+    words[at] = sources as u32;
+}
+
+impl InterfaceValue {
+    // The bits of a word that this value has.
+    fn kept(self, word: u32) -> u32
+        ensures { λ r. ⌜ r ≡ kept self word ⌝ }
+    {
+        match self {
+            InterfaceValue::Control => word % 2 + 512 * (word / 512 % 2),
+            InterfaceValue::PriorityMask => word % 256,
+            InterfaceValue::BinaryPoint => word % 8,
+            InterfaceValue::Depth => word,
+        }
+    }
+}
+
+pub fn interface_value(words: &[u32], shape: Shape, vcpu: GicVcpuId, value: InterfaceValue) -> u32
+    requires { ⌜ Holds shape (Interface (vcpu .0) value) (now words) ⌝ }
+    ensures { λ r. ⌜ r ≡ interfaceAt shape (vcpu .0) value (now (words .entry)) ⌝ }
+{
+    let at = interface_place(shape, vcpu, value);
+    value.kept(words[at])
+}
+
+pub fn put_interface_value(
+    words: &mut [u32],
+    shape: Shape,
+    vcpu: GicVcpuId,
+    value: InterfaceValue,
+    bits: u32,
+)
+    requires { ⌜ Holds shape (Interface (vcpu .0) value) (now words) ⌝ }
+    ensures { λ r. ⌜ now (words .exit) ≡ withInterface shape (vcpu .0) value bits (now (words .entry)) ⌝ }
+{
+    let at = interface_place(shape, vcpu, value);
+    words[at] = value.kept(bits);
+}
+
+pub fn distributor_enabled(words: &[u32], shape: Shape) -> bool
+    requires { ⌜ Room shape (now words) ⌝ }
+    ensures { λ r. ⌜ r ≡ enabledAt shape (now (words .entry)) ⌝ }
+{
+    words[2] % 2 == 1
+}
+
+pub fn enable_distributor(words: &mut [u32], shape: Shape, enabled: bool)
+    requires { ⌜ Room shape (now words) ⌝ }
+    ensures { λ r. ⌜ now (words .exit) ≡ withEnabledAt shape enabled (now (words .entry)) ⌝ }
+{
+    if enabled {
+        words[2] = 1;
+    } else {
+        words[2] = 0;
+    }
+}
+
+fn entry_of(word: u32) -> Entry
+    ensures { λ r. ⌜ r ≡ entryOf word ⌝ }
+{
+    Entry {
+        intid: IntId(word % 1024),
+        priority: Priority((word / 1024 % 256) as u8),
+    }
+}
+
+fn entry_word(entry: Entry) -> u32
+    ensures { λ r. ⌜ r ≡ entryWord entry ⌝ }
+{
+    entry.intid.0 % 1024 + 1024 * (entry.priority.0 as u32)
+}
+
+pub fn stack_entry(words: &[u32], shape: Shape, vcpu: GicVcpuId, index: usize) -> Entry
+    requires { ⌜ Holds shape (Stack (vcpu .0) index) (now words) ⌝ }
+    ensures { λ r. ⌜ r ≡ entryAt shape (vcpu .0) index (now (words .entry)) ⌝ }
+{
+    let at = stack_place(shape, vcpu, index);
+    entry_of(words[at])
+}
+
+pub fn put_stack_entry(words: &mut [u32], shape: Shape, vcpu: GicVcpuId, index: usize, entry: Entry)
+    requires { ⌜ Holds shape (Stack (vcpu .0) index) (now words) ⌝ }
+    ensures { λ r. ⌜ now (words .exit) ≡ withEntry shape (vcpu .0) index entry (now (words .entry)) ⌝ }
+{
+    let at = stack_place(shape, vcpu, index);
+    words[at] = entry_word(entry);
+}
+
+pub fn clear_stack_entry(words: &mut [u32], shape: Shape, vcpu: GicVcpuId, index: usize)
+    requires { ⌜ Holds shape (Stack (vcpu .0) index) (now words) ⌝ }
+    ensures { λ r. ⌜ now (words .exit) ≡ withoutEntry shape (vcpu .0) index (now (words .entry)) ⌝ }
+{
+    let at = stack_place(shape, vcpu, index);
+    words[at] = 0;
+}
