@@ -41,6 +41,10 @@ recordAt shape v n s = recordOf (wordAt shape (recordSlot v n) s)
 abbrev pub withRecord : Shape → ℕ → ℕ → InterruptRecord → List ℕ → List ℕ
 withRecord shape v n r s = put shape (recordSlot v n) (wordOf r) s
 
+-- the record of n, changed by a transition
+abbrev pub changed : Shape → ℕ → ℕ → (InterruptRecord → InterruptRecord) → List ℕ → List ℕ
+changed shape v n f s = withRecord shape v n (f (recordAt shape v n s)) s
+
 -- bit u of the source set: vCPU u has sent this SGI
 abbrev pub sourcesAt : Shape → ℕ → ℕ → List ℕ → ℕ
 sourcesAt shape v n s = wordAt shape (Sources v n) s % 256

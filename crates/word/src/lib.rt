@@ -43,7 +43,7 @@ fn owner_of(byte: usize) -> Owner
     }
 }
 
-fn bit(b: bool) -> u32
+pub fn bit(b: bool) -> u32
     ensures { λ r. ⌜ (r ≡ bitOf b) × (r < 2) ⌝ }
 {
     if b { 1 } else { 0 }
@@ -67,7 +67,7 @@ fn set_bit(mask: CpuTargetMask) -> u32
     }
 }
 
-fn mask_byte(mask: CpuTargetMask) -> u8
+pub fn mask_byte(mask: CpuTargetMask) -> u8
     ensures { λ r. ⌜ r ≡ maskByte mask ⌝ }
 {
     match mask {

@@ -1,0 +1,4 @@
+-- Laws that belong to no one function.
+pub mod BitLaws
+pub mod Gathered
+pub mod Runs

@@ -1,0 +1,3 @@
+// The Distributor's registers over the lent state. Mirrors the target and source functions of v2.rs, and distributor.rs and
+// redistributor.rs (unseen).
+pub mod bits;
