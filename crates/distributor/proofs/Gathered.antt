@@ -4,11 +4,11 @@ use mathlib.Core.Path.{_≡_, refl, sym, ap, _∙_}
 use mathlib.Core.Bool.{Bool, true, false}
 use mathlib.Core.List.{List}
 use Prim.Native.Nat.{ℕ, zero, suc, _+_, _*_, _-_, _/_, _%_, _^_, _≤_, _<_}
-use native.Mathlib.Nat.{not-suc-le-zero, mul-suc, mul-zero, zero-mul, mul-le-mul-left, add-comm, add-zero, mod-eq-of-lt, lt-of-lt-of-le}
+use native.Mathlib.Nat.{not-suc-le-zero, mul-suc, mul-zero, zero-mul, one-mul, mul-le-mul-left, add-comm, add-zero, mod-eq-of-lt, lt-of-lt-of-le}
 use native.Mathlib.Omega.{arith}
 use lib.Arith.{digits-lt}
 use lib.Dec.{eqb}
-use lib.Pow.{pow-pos, pow-mono, pow-add, high, low, mod-mod-pow}
+use lib.Pow.{pow-pos, pow-mono, pow-add, high, low, mod-mod-pow, shl-exact}
 use borrow.Author.Tests.{eqb-true, eqb-false}
 use Rattle.word.specs.Fields.{field}
 use Rattle.state.specs.Loop.{upTo}
@@ -84,3 +84,7 @@ up-idle f s (suc n) m h idle = last-or (eqb m (suc n)) refl (λ earlier. up-idle
     last-or false p earlier =
         let d : m ≡ suc n → ⊥ = eqb-false m (suc n) p in
         idle n (upTo f n s) (omega arith) (omega arith) ∙ earlier (omega arith)
+
+-- a 1 shifted inside its word
+pub one-shifted : (k w : ℕ) → 1 + k ≤ w → 1 * 2 ^ k % 2 ^ w ≡ 2 ^ k
+one-shifted k w h = shl-exact 1 k w (omega arith) h ∙ one-mul (2 ^ k)
