@@ -13,10 +13,10 @@ use Rattle.word.specs.Word.{maskByte}
 use Rattle.word.proofs.RecordWord.{decoded-in-range}
 use Rattle.state.specs.declared.layout.Shape.{Shape}
 use Rattle.state.specs.Words.{wordAt, recordSlot, recordAt, sourcesAt}
-use Rattle.distributor.specs.Fields.{gathered}
-use Rattle.distributor.specs.Targets.{ownByte, readTarget}
+use Rattle.word.specs.Fields.{gathered}
+use Rattle.targets.specs.Targets.{ownByte, readTarget}
 use Rattle.distributor.specs.Bytes.{readPriority, readByte}
-use Rattle.distributor.proofs.Gathered.{gathered-fits}
+use Rattle.word.proofs.Gathered.{gathered-fits}
 
 own-below : (v : ℕ) → ownByte v < 2 ^ 8
 own-below v = go (ltb v 8) refl

@@ -11,9 +11,9 @@ use Rattle.state.specs.declared.layout.Shape.{Shape}
 use Rattle.state.specs.Layout.{Room}
 use Rattle.state.specs.Loop.{upTo}
 use Rattle.state.specs.Words.{recordAt, changed, sourcesAt}
-use Rattle.distributor.specs.Fields.{fieldAt, gathered}
-use Rattle.distributor.specs.Sgi.{clearSources, setSources}
-use Rattle.distributor.specs.Targets.{readTarget, writeTarget}
+use Rattle.word.specs.Fields.{fieldAt, gathered}
+use Rattle.sgi.specs.Sgi.{clearSources, setSources}
+use Rattle.targets.specs.Targets.{readTarget, writeTarget}
 
 -- "A priority byte keeps all 8 bits"; numbers not below the limit read 0 and ignore writes
 unfoldable pub readPriority : Shape → ℕ → List ℕ → ℕ → ℕ

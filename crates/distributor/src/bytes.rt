@@ -2,20 +2,20 @@
 ghost use mathlib.Core.Path.{_≡_};
 ghost use Prim.Native.Nat.{_+_, _*_, _^_, _<_};
 ghost use Rattle.register.specs.declared.ranges.ByteRegister.the-variants.{Ipriorityr};
-ghost use Rattle.distributor.specs.Fields.{fieldAt};
+ghost use Rattle.word.specs.Fields.{fieldAt};
 ghost use Rattle.distributor.specs.Bytes.{readPriority, writePriority, readByte, writeByte, readBytes, writeBytes, ByteAt, BytesAt};
-use crate::sgi::clear_sgi_sources;
-use crate::sgi::set_sgi_sources;
-use crate::targets::read_target;
-use crate::targets::write_target;
 use interrupt::GicVcpuId;
 use interrupt::IntId;
 use interrupt::Priority;
 use register::ByteRegister;
+use sgi::clear_sgi_sources;
+use sgi::set_sgi_sources;
 use state::Shape;
 use state::words::put_record;
 use state::words::record;
 use state::words::sgi_sources;
+use targets::read_target;
+use targets::write_target;
 
 fn read_priority(words: &[u32], shape: Shape, vcpu: GicVcpuId, intid: IntId) -> u8
     requires { ⌜ ByteAt shape Ipriorityr (vcpu .0) (intid .0) (now words) ⌝ }

@@ -1,7 +1,4 @@
-// The Distributor's registers over the lent state. Mirrors the target and source functions of v2.rs, and distributor.rs and
-// redistributor.rs (unseen).
-pub mod bits;
+// The Distributor's byte arrays and single registers over the lent state; its bit registers, target bytes and SGI sources have crates
+// of their own. Mirrors the target and source functions of v2.rs, and distributor.rs and redistributor.rs (unseen).
 pub mod bytes;
-pub mod sgi;
-pub mod targets;
 pub mod values;

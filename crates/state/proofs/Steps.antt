@@ -1,6 +1,6 @@
 -- Steps taken one after another, each with slots of its own: what a step's own slots hold at the end is what that step alone makes of the
 -- start, and slots that no step has stay. So a register's write can be read field by field. Assumes nothing.
-use mathlib.Core.Path.{_≡_, refl, sym, _∙_}
+use mathlib.Core.Path.{_≡_, refl, sym, ap, _∙_}
 use mathlib.Core.Bool.{Bool, true, false}
 use mathlib.Core.List.{List}
 use Prim.Native.Nat.{ℕ, zero, suc, _≤_, _<_}
@@ -50,3 +50,20 @@ module _ (shape : Shape) (Mine : ℕ → Slot → Type 0) (f : ℕ → List ℕ 
         last-or false p earlier =
             let d : i ≡ n → ⊥ = eqb-false i n p in
             record { agree = λ t e m. steps n .others (upTo f n s) t e (λ mn. d (apart i n t m mn)) ∙ earlier (omega arith) .agree t e m }
+
+-- steps that change nothing may be left out
+pub up-idle : (f : ℕ → List ℕ → List ℕ) (s : List ℕ) (n m : ℕ) → m ≤ n → ((i : ℕ) (r : List ℕ) → m ≤ i → i < n → f i r ≡ r) → upTo f n s ≡ upTo f m s
+unfolding upTo
+up-idle f s zero m h idle = let e : m ≡ 0 = omega arith in rw e
+up-idle f s (suc n) m h idle = last-or (eqb m (suc n)) refl (λ earlier. up-idle f s n m earlier (λ i r a b. idle i r a (omega arith)))
+  where
+    last-or : (b : Bool) → eqb m (suc n) ≡ b → (m ≤ n → upTo f n s ≡ upTo f m s) → f n (upTo f n s) ≡ upTo f m s
+    last-or true p earlier = let e : m ≡ suc n = eqb-true m (suc n) p in rw e
+    last-or false p earlier =
+        let d : m ≡ suc n → ⊥ = eqb-false m (suc n) p in
+        idle n (upTo f n s) (omega arith) (omega arith) ∙ earlier (omega arith)
+
+pub up-same : (f g : ℕ → List ℕ → List ℕ) (s : List ℕ) (n : ℕ) → ((i : ℕ) (r : List ℕ) → i < n → f i r ≡ g i r) → upTo f n s ≡ upTo g n s
+unfolding upTo
+up-same f g s zero same = refl
+up-same f g s (suc n) same = same n (upTo f n s) (omega arith) ∙ ap (g n) (up-same f g s n (λ i r h. same i r (omega arith)))

@@ -2,7 +2,7 @@
 use borrow.Author.Needs.{needs}
 use Rattle.distributor.proofs.ByteLaws.{bytes-fit}
 use Rattle.distributor.specs.Bytes.{readByte, readBytes}
-use Rattle.distributor.specs.Fields.{gathered}
+use Rattle.word.specs.Fields.{gathered}
 use native.Mathlib.Numerals.{add-one}
 use Prim.Native.Nat.{_+_, _≤_, _-_}
 use mathlib.Core.Path.{_≡_}

@@ -1,7 +1,7 @@
 -- `distributor::bytes::write_bytes` meets its contract. Assumes nothing.
 use borrow.Author.Needs.{needs}
 use Rattle.distributor.specs.Bytes.{writeByte, writeBytes}
-use Rattle.distributor.specs.Fields.{fieldAt}
+use Rattle.word.specs.Fields.{fieldAt}
 use Rattle.state.specs.Loop.{upTo}
 use native.Mathlib.Numerals.{add-one}
 use lib.ListN.{length}

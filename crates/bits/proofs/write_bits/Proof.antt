@@ -1,0 +1,51 @@
+-- `bits::write_bits` meets its contract. Assumes nothing.
+use Rattle.bits.proofs.Runs.{run-inside, run-writes, none-writes}
+use Rattle.bits.specs.Bits.{perWord, WordAt, Existing}
+use Rattle.state.specs.Layout.{size}
+use Prim.Native.Nat.{_+_, _≤_}
+use mathlib.Core.Path.{sym, _∙_}
+use borrow.Author.Needs.{needs}
+use Rattle.bits.proofs.write_bits.Statement.{statement}
+use Rattle.bits.proofs.write_bits.Tie as tie
+
+returns : tie.Need-returns
+returns c = let a = c .before .before .before .before .args in sym (none-writes (a .shape) (a .register) (a .vcpu .0) (a .first .0) (a .value) (a .words .now) (c .if1 .taken))
+
+per-word-requires : tie.Need-per-word-requires
+per-word-requires c κs = search needs
+
+existing-requires : tie.Need-existing-requires
+existing-requires c κs = search needs
+
+record-place-requires : tie.Need-record-place-requires
+record-place-requires c κs = search needs
+
+write-run-requires : tie.Need-write-run-requires
+write-run-requires c κs =
+    let a = c .before .before .before .before .before .before .before .before .args in
+    let p : WordAt (a .shape) (a .register) (a .vcpu .0) (a .first .0) (a .words .now) = c .before .before .before .before .before .before .before .before .pre in
+    let e : Existing (a .shape .limit) (a .first .0) (perWord (a .register)) (c .before .before .existing .result) = rw (c .before .before .before .per-word .ensures .0) at (c .before .before .existing .ensures) in
+    let i : c .before .record-place .result + c .before .before .existing .result ≤ size (a .shape) = rw (c .before .record-place .ensures .at) (run-inside (a .shape) (a .register) (a .vcpu .0) (a .first .0) _ (a .words .now) p e) in
+    (record { in-word = e .few; short = search needs; inside = search needs }, search needs)
+
+same-length : tie.Need-same-length
+same-length c = search needs
+
+returns-2 : tie.Need-returns-2
+returns-2 c =
+    let a = c .before .before .before .before .before .before .before .before .before .before .before .args in
+    let p : WordAt (a .shape) (a .register) (a .vcpu .0) (a .first .0) (a .words .now) = c .before .before .before .before .before .before .before .before .before .before .before .pre in
+    let e : Existing (a .shape .limit) (a .first .0) (perWord (a .register)) (c .before .before .before .before .before .existing .result) = rw (c .before .before .before .before .before .before .per-word .ensures .0) at (c .before .before .before .before .before .existing .ensures) in
+    c .before .before .write-run .ensures ∙ rw (c .before .before .before .before .record-place .ensures .at) (run-writes (a .shape) (a .register) (a .vcpu .0) (a .first .0) _ (a .words .now) p e (a .value))
+
+pub write-bits-spec : {M : Type 1} → statement M
+write-bits-spec =
+    tie.close
+    (tie.spec
+    returns
+    per-word-requires
+    existing-requires
+    record-place-requires
+    write-run-requires
+    same-length
+    returns-2)

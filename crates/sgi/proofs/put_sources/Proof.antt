@@ -1,0 +1,21 @@
+-- `sgi::put_sources` meets its contract. Assumes nothing.
+use mathlib.Core.Path.{_∙_}
+use borrow.Author.Needs.{needs}
+use Rattle.sgi.proofs.put_sources.Statement.{statement}
+use Rattle.sgi.proofs.put_sources.Tie as tie
+
+put-sgi-sources-requires : tie.Need-put-sgi-sources-requires
+put-sgi-sources-requires c κs = search needs
+
+set-pending-requires : tie.Need-set-pending-requires
+set-pending-requires c κs = search needs
+
+same-length : tie.Need-same-length
+same-length c = search needs
+
+returns : tie.Need-returns
+returns c = c .before .before .set-pending .ensures ∙ simp (c .before .before .before .before .before .before .put-sgi-sources .ensures)
+
+pub put-sources-spec : {M : Type 1} → statement M
+put-sources-spec =
+    tie.close (tie.spec put-sgi-sources-requires set-pending-requires same-length returns)
