@@ -1,6 +1,6 @@
 -- What bit registers read and write. Assumes nothing.
 use mathlib.Core.Bool.{Bool, true, false, not, cond}
-use Prim.Native.Nat.{ℕ, _*_, _^_, _≤_, _<_}
+use Prim.Native.Nat.{ℕ, _*_, _^_, _<_}
 use native.Mathlib.Omega.{arith}
 use mathlib.Core.List.{List}
 use lib.Dec.{ltb}
@@ -11,7 +11,7 @@ use Rattle.register.specs.declared.ranges.BitRegister.the-variants.{Igroupr, Is
 use Rattle.word.specs.Word.{bitOf}
 use Rattle.state.specs.declared.layout.Shape.{Shape}
 use Rattle.state.specs.Words.{recordAt}
-use Rattle.bits.specs.Bits.{isConfig, fieldBits, perWord, readField, readNumber}
+use Rattle.bits.specs.Bits.{fieldBits, readField, readNumber}
 
 bit-below : (b : Bool) → bitOf b < 2
 bit-below true = omega arith

@@ -1,23 +1,22 @@
 -- The records that a word of a bit register reaches stand side by side, so that one loop over places reads or writes them. Assumes nothing.
-use mathlib.Core.Path.{_≡_, refl, sym, ap, _∙_}
+use mathlib.Core.Path.{_≡_, refl, sym, _∙_}
 use mathlib.Core.Bool.{Bool, true, false, cond}
 use mathlib.Core.List.{List}
-use Prim.Native.Nat.{ℕ, zero, suc, _+_, _*_, _-_, _^_, _≤_, _<_}
+use Prim.Native.Nat.{ℕ, suc, _+_, _*_, _^_, _≤_, _<_}
 use native.Mathlib.Nat.{lt-of-le-of-lt}
 use native.Mathlib.Omega.{arith}
 use lib.Dec.{ltb}
-use lib.ListN.{length, getD}
+use lib.ListN.{getD}
 use borrow.Author.Tests.{lt-ltb, le-ltb, ltb-true, ltb-false}
-use Rattle.interrupt.specs.declared.record.InterruptRecord.{InterruptRecord}
 use Rattle.register.specs.declared.ranges.BitRegister.{BitRegister}
 use Rattle.word.specs.Word.{recordOf}
 use Rattle.state.specs.declared.layout.Shape.{Shape}
-use Rattle.state.specs.Layout.{Slot, Private, Spi, size, place, Limits, Room}
+use Rattle.state.specs.Layout.{Private, Spi, size, place}
 use Rattle.state.specs.Loop.{upTo}
-use Rattle.state.specs.Words.{recordSlot, recordAt, changed, RecordThere}
+use Rattle.state.specs.Words.{recordSlot}
 use Rattle.state.proofs.Accessors.{record-run}
 use Rattle.word.specs.Fields.{fieldAt, gathered}
-use Rattle.bits.specs.Bits.{isConfig, fieldBits, perWord, readField, readNumber, readBits, acts, act, writeNumber, writeBits, WordAt, Existing, fieldIn, writeRecord, writeIn}
+use Rattle.bits.specs.Bits.{isConfig, fieldBits, perWord, readNumber, readBits, writeNumber, writeBits, WordAt, Existing, fieldIn, writeRecord, writeIn}
 use Rattle.word.proofs.Gathered.{gathered-idle, gathered-same, gathered-fits}
 use Rattle.state.proofs.Steps.{up-idle, up-same}
 use Rattle.bits.proofs.BitLaws.{field-below}

@@ -2,17 +2,16 @@
 use mathlib.Core.Bool.{Bool, true, false, cond}
 use mathlib.Core.List.{List}
 use mathlib.Core.Path.{_≡_, refl}
-use Prim.Native.Nat.{ℕ, suc, _+_, _*_, _%_, _^_, _≤_, _<_}
+use Prim.Native.Nat.{ℕ, suc, _+_, _*_, _^_, _<_}
 use native.Mathlib.Omega.{arith}
 use lib.Dec.{ltb}
 use lib.Pow.{pow-lt}
 use borrow.Author.Tests.{ltb-true}
 use Rattle.register.specs.declared.ranges.ByteRegister.{ByteRegister}
 use Rattle.register.specs.declared.ranges.ByteRegister.the-variants.{Ipriorityr, Itargetsr, Cpendsgir, Spendsgir}
-use Rattle.word.specs.Word.{maskByte}
 use Rattle.word.proofs.RecordWord.{decoded-in-range}
 use Rattle.state.specs.declared.layout.Shape.{Shape}
-use Rattle.state.specs.Words.{wordAt, recordSlot, recordAt, sourcesAt}
+use Rattle.state.specs.Words.{wordAt, recordSlot}
 use Rattle.word.specs.Fields.{gathered}
 use Rattle.targets.specs.Targets.{ownByte, readTarget}
 use Rattle.distributor.specs.Bytes.{readPriority, readByte}

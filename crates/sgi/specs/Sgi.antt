@@ -11,9 +11,12 @@ use Rattle.state.specs.Words.{changed, sourcesAt, withSources}
 use Rattle.sgi.specs.declared.SgiTarget.{SgiTarget}
 use Rattle.sgi.specs.declared.SgiTarget.the-variants.{Mask, AllExceptSelf, SelfOnly, Nobody}
 
--- the SGI n at the vCPU v has these sources, and is pending, "by `set_pending`, exactly when a source is then set"
+-- the SGI n at the vCPU v is pending, "by `set_pending`, exactly when a source is then set"
+abbrev pub pendBySources : Shape → ℕ → ℕ → List ℕ → List ℕ
+pendBySources shape v n s = changed shape v n (λ r. setPending r (not (eqb (sourcesAt shape v n s) 0))) s
+
 abbrev pub sourced : Shape → ℕ → ℕ → ℕ → List ℕ → List ℕ
-sourced shape v n sources s = changed shape v n (λ r. setPending r (not (eqb sources 0))) (withSources shape v n sources s)
+sourced shape v n sources s = pendBySources shape v n (withSources shape v n sources s)
 
 -- CPENDSGIR: "writing 1 bits clears .. them"; "a zero byte changes nothing"
 unfoldable pub clearSources : Shape → ℕ → ℕ → ℕ → List ℕ → List ℕ

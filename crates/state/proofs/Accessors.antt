@@ -3,26 +3,26 @@
 use mathlib.Core.Path.{_≡_, refl, sym, ap, _∙_, subst}
 use mathlib.Core.Bool.{Bool, true, false, cond}
 use mathlib.Core.List.{List}
-use Prim.Native.Nat.{ℕ, _+_, _*_, _-_, _/_, _%_, _^_, _≤_, _<_}
+use Prim.Native.Nat.{ℕ, _+_, _/_, _%_, _≤_, _<_}
 use native.Mathlib.Omega.{arith}
 use native.Mathlib.Nat.{mod-eq-of-lt}
 use lib.Dec.{eqb, ltb}
-use lib.ListN.{length, getD, set, drop, length-set}
+use lib.ListN.{length, drop, length-set}
 use lib.Seq.{getD-set-same, getD-set-other, set-set, set-comm, drop-set-lt}
 use borrow.Author.Tests.{lt-ltb, le-ltb, ltb-true, ltb-false, eqb-true, eqb-false}
 use Rattle.interrupt.specs.declared.record.InterruptRecord.{InterruptRecord}
-use Rattle.word.specs.Word.{bitOf, recordOf, wordOf, InRange}
-use Rattle.word.proofs.RecordWord.{decode-encode, encoded-canonical}
+use Rattle.word.specs.Word.{bitOf, wordOf, InRange}
+use Rattle.word.proofs.RecordWord.{decode-encode}
 use Rattle.state.specs.declared.layout.Shape.{Shape}
 use Rattle.state.specs.declared.layout.InterfaceValue.{InterfaceValue}
 use Rattle.state.specs.declared.layout.InterfaceValue.the-variants.{Control, PriorityMask, BinaryPoint, Depth}
 use Rattle.state.specs.declared.words.Entry.{Entry}
 use Rattle.state.specs.Layout.{Slot, Count, Limit, DistributorControl, Interface, Sources, Private, Spi, Stack, size, place, Exists, Limits, Room}
-use Rattle.state.specs.Words.{wordAt, put, recordSlot, RecordThere, recordAt, withRecord, sourcesAt, withSources, kept, interfaceAt, withInterface, enabledAt, withEnabledAt, entryOf, entryWord, entryAt, withEntry, CanonicalWord, Canonical}
+use Rattle.state.specs.Words.{wordAt, put, recordSlot, RecordThere, recordAt, withRecord, sourcesAt, withSources, kept, interfaceAt, withInterface, enabledAt, withEnabledAt, entryOf, entryWord, entryAt, withEntry, CanonicalWord}
 use Rattle.state.proofs.Places.{place-inside, place-apart}
 
 -- what is kept of what is kept
-kept-kept : (k : InterfaceValue) (x : ℕ) → kept k (kept k x) ≡ kept k x
+pub kept-kept : (k : InterfaceValue) (x : ℕ) → kept k (kept k x) ≡ kept k x
 kept-kept Control x = omega arith
 kept-kept PriorityMask x = omega arith
 kept-kept BinaryPoint x = omega arith
@@ -68,7 +68,7 @@ module _ (shape : Shape) (s : List ℕ) where
   put-comm t u w x et eu apart = set-comm s (place shape t) (place shape u) w x (λ p. apart (place-apart shape t u et eu p))
 
   -- a slot is the one that was put, or another
-  same-or-other {ℓ} : {X : Type ℓ} (t u : Slot) → Exists shape t → Exists shape u → (t ≡ u → X) → ((t ≡ u → ⊥) → X) → X
+  pub same-or-other {ℓ} : {X : Type ℓ} (t u : Slot) → Exists shape t → Exists shape u → (t ≡ u → X) → ((t ≡ u → ⊥) → X) → X
   same-or-other {X = X} t u et eu same other = go (eqb (place shape t) (place shape u)) refl
     where
       go : (b : Bool) → eqb (place shape t) (place shape u) ≡ b → X

@@ -3,16 +3,15 @@
 use mathlib.Core.Path.{_≡_, refl, sym, ap, _∙_}
 use mathlib.Core.Bool.{Bool, true, false}
 use mathlib.Core.List.{List}
-use Prim.Native.Nat.{ℕ, zero, suc, _≤_, _<_, _^_}
+use Prim.Native.Nat.{ℕ, zero, suc, _≤_, _<_}
 use native.Mathlib.Nat.{not-suc-le-zero}
 use native.Mathlib.Omega.{arith}
-use lib.Dec.{eqb, ltb}
+use lib.Dec.{eqb}
 use lib.ListN.{length, getD, set, drop, length-set}
 use lib.Seq.{getD-set-same, getD-set-other, drop-set-lt}
 use borrow.Author.Tests.{eqb-true, eqb-false}
-use Rattle.interrupt.specs.Types.{isSgi, startingTrigger}
 use Rattle.interrupt.specs.Record.{newRecord, startingRecord}
-use Rattle.word.specs.Word.{wordOf, InRange}
+use Rattle.word.specs.Word.{InRange}
 use Rattle.word.proofs.RecordWord.{encoded-canonical}
 use Rattle.state.specs.declared.layout.Shape.{Shape}
 use Rattle.state.specs.declared.layout.InterfaceValue.{InterfaceValue}
@@ -20,7 +19,7 @@ use Rattle.state.specs.declared.layout.InterfaceValue.the-variants.{Cont
 use Rattle.state.specs.Layout.{Slot, Count, Limit, DistributorControl, Interface, Sources, Private, Spi, Stack, size, place, Exists, Room, slotAt}
 use Rattle.state.specs.Loop.{upTo}
 use Rattle.state.specs.Words.{wordAt, kept, CanonicalWord, Canonical}
-use Rattle.state.specs.Lent.{shaped, Held}
+use Rattle.state.specs.Lent.{Held}
 use Rattle.state.specs.Fresh.{startOf, startedAt, fresh}
 use Rattle.state.proofs.Places.{place-inside, slot-back}
 

@@ -1,6 +1,6 @@
 -- Steps taken one after another, each with slots of its own: what a step's own slots hold at the end is what that step alone makes of the
 -- start, and slots that no step has stay. So a register's write can be read field by field. Assumes nothing.
-use mathlib.Core.Path.{_≡_, refl, sym, ap, _∙_}
+use mathlib.Core.Path.{_≡_, refl, ap, _∙_}
 use mathlib.Core.Bool.{Bool, true, false}
 use mathlib.Core.List.{List}
 use Prim.Native.Nat.{ℕ, zero, suc, _≤_, _<_}
@@ -23,33 +23,40 @@ pub record Local (shape : Shape) (Mine : Slot → Type 0) (f : List ℕ → List
   pub others : (s : List ℕ) (t : Slot) → Exists shape t → (Mine t → ⊥) → wordAt shape t (f s) ≡ wordAt shape t s
   pub own : (s r : List ℕ) → Room shape s → Room shape r → Agree shape Mine s r → Agree shape Mine (f s) (f r)
 
-module _ (shape : Shape) (Mine : ℕ → Slot → Type 0) (f : ℕ → List ℕ → List ℕ) (steps : (i : ℕ) → Local shape (Mine i) (f i)) where
-  pub steps-room : (n : ℕ) (s : List ℕ) → Room shape s → Room shape (upTo f n s)
+module _ (shape : Shape) (Mine : ℕ → Slot → Type 0) (f : ℕ → List ℕ → List ℕ) where
+  pub steps-room : (n : ℕ) (s : List ℕ) → ((i : ℕ) → i < n → Local shape (Mine i) (f i)) → Room shape s → Room shape (upTo f n s)
   unfolding upTo
-  steps-room zero s h = h
-  steps-room (suc n) s h = steps n .room (upTo f n s) (steps-room n s h)
+  steps-room zero s steps h = h
+  steps-room (suc n) s steps h = steps n (omega arith) .room (upTo f n s) (steps-room n s (λ i b. steps i (omega arith)) h)
 
-  pub steps-others : (n : ℕ) (s : List ℕ) (t : Slot) → Exists shape t → ((i : ℕ) → i < n → Mine i t → ⊥) → wordAt shape t (upTo f n s) ≡ wordAt shape t s
+  pub steps-others : (n : ℕ) (s : List ℕ) → ((i : ℕ) → i < n → Local shape (Mine i) (f i))
+      → (t : Slot) → Exists shape t → ((i : ℕ) → i < n → Mine i t → ⊥) → wordAt shape t (upTo f n s) ≡ wordAt shape t s
   unfolding upTo
-  steps-others zero s t e away = refl
-  steps-others (suc n) s t e away = steps n .others (upTo f n s) t e (away n (omega arith)) ∙ steps-others n s t e (λ i b. away i (omega arith))
+  steps-others zero s steps t e away = refl
+  steps-others (suc n) s steps t e away =
+      steps n (omega arith) .others (upTo f n s) t e (away n (omega arith))
+      ∙ steps-others n s (λ i b. steps i (omega arith)) t e (λ i b. away i (omega arith))
 
   module _ (apart : (i j : ℕ) (t : Slot) → Mine i t → Mine j t → i ≡ j) where
-    before-last : (n : ℕ) (s : List ℕ) → Agree shape (Mine n) (upTo f n s) s
-    before-last n s = record { agree = λ t e m. steps-others n s t e (λ i b mi. let p : i ≡ n = apart i n t mi m in omega arith) }
+    before-last : (n : ℕ) (s : List ℕ) → ((i : ℕ) → i < n → Local shape (Mine i) (f i)) → Agree shape (Mine n) (upTo f n s) s
+    before-last n s steps = record { agree = λ t e m. steps-others n s steps t e (λ i b mi. let p : i ≡ n = apart i n t mi m in omega arith) }
 
-    pub steps-own : (n : ℕ) (s : List ℕ) → Room shape s → (i : ℕ) → i < n → Agree shape (Mine i) (upTo f n s) (f i s)
+    pub steps-own : (n : ℕ) (s : List ℕ) → ((i : ℕ) → i < n → Local shape (Mine i) (f i)) → Room shape s
+        → (i : ℕ) → i < n → Agree shape (Mine i) (upTo f n s) (f i s)
     unfolding upTo
-    steps-own zero s h i b = absurd (not-suc-le-zero b)
-    steps-own (suc n) s h i b = last-or (eqb i n) refl (λ below. steps-own n s h i below)
+    steps-own zero s steps h i b = absurd (not-suc-le-zero b)
+    steps-own (suc n) s steps h i b = last-or (eqb i n) refl (λ below. steps-own n s (λ j c. steps j (omega arith)) h i below)
       where
+        sooner : (j : ℕ) → j < n → Local shape (Mine j) (f j)
+        sooner j c = steps j (omega arith)
+
         last-or : (t : Bool) → eqb i n ≡ t → (i < n → Agree shape (Mine i) (upTo f n s) (f i s)) → Agree shape (Mine i) (f n (upTo f n s)) (f i s)
         last-or true p earlier =
             let e : i ≡ n = eqb-true i n p in
-            rw e (steps n .own (upTo f n s) s (steps-room n s h) h (before-last n s))
+            rw e (steps n (omega arith) .own (upTo f n s) s (steps-room n s sooner h) h (before-last n s sooner))
         last-or false p earlier =
             let d : i ≡ n → ⊥ = eqb-false i n p in
-            record { agree = λ t e m. steps n .others (upTo f n s) t e (λ mn. d (apart i n t m mn)) ∙ earlier (omega arith) .agree t e m }
+            record { agree = λ t e m. steps n (omega arith) .others (upTo f n s) t e (λ mn. d (apart i n t m mn)) ∙ earlier (omega arith) .agree t e m }
 
 -- steps that change nothing may be left out
 pub up-idle : (f : ℕ → List ℕ → List ℕ) (s : List ℕ) (n m : ℕ) → m ≤ n → ((i : ℕ) (r : List ℕ) → m ≤ i → i < n → f i r ≡ r) → upTo f n s ≡ upTo f m s

@@ -1,9 +1,9 @@
 -- What the test of lent words means: a count and limit that pass are in the limits, and words pass exactly if they hold a state whose
 -- depths fit. Assumes nothing.
-use mathlib.Core.Path.{_≡_, refl, sym, ap, _∙_}
+use mathlib.Core.Path.{_≡_, refl, sym, ap}
 use mathlib.Core.Bool.{Bool, true, false, cond, _&&_, and-false}
 use mathlib.Core.List.{List}
-use Prim.Native.Nat.{ℕ, _≤_, _<_}
+use Prim.Native.Nat.{ℕ}
 use native.Mathlib.Omega.{arith}
 use lib.Dec.{leb}
 use lib.ListN.{length, getD}
@@ -12,9 +12,8 @@ use Rattle.state.specs.declared.layout.Shape.{Shape}
 use Rattle.state.specs.declared.layout.InterfaceValue.the-variants.{Depth}
 use Rattle.state.specs.declared.lent.Limited.{Limited}
 use Rattle.state.specs.declared.lent.Limited.the-variants.{Within, Outside}
-use Rattle.state.specs.declared.lent.Lent.{Lent}
 use Rattle.state.specs.declared.lent.Lent.the-variants.{Sound, Broken}
-use Rattle.state.specs.Layout.{Interface, size, Limits, Room}
+use Rattle.state.specs.Layout.{Interface, size, Limits}
 use Rattle.state.specs.Loop.{everyBelow}
 use Rattle.state.specs.Words.{wordAt}
 use Rattle.state.specs.Lent.{inLimits, shaped, limited, storedShape, depthFits, held, validated, Held}

@@ -2,7 +2,7 @@
 -- (document 01, "Refusal numbers"). A word may have bits that count for nothing; what is written has none (`Canonical`), so that equal
 -- states are equal words.
 use mathlib.Core.Path.{_≡_}
-use mathlib.Core.Bool.{Bool, true, false, cond}
+use mathlib.Core.Bool.{Bool, cond}
 use mathlib.Core.List.{List}
 use Prim.Native.Nat.{ℕ, _+_, _*_, _/_, _%_, _^_, _≤_, _<_}
 use lib.Dec.{eqb, ltb}

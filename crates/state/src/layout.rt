@@ -1,6 +1,6 @@
 // Where each word of the state stands. Every place is linear in the vCPU's and the interrupt's number.
 ghost use mathlib.Core.Path.{_≡_};
-ghost use Prim.Native.Nat.{_+_, _<_, _≤_};
+ghost use Prim.Native.Nat.{_+_, _<_};
 ghost use Rattle.state.specs.Layout.{interfaceNumber, vcpuStart, spiStart, stackStart, size, Limits, Inside, Placed, Interface, Sources, Private, Spi, Stack};
 ghost use Rattle.state.specs.Words.{recordSlot, RecordThere};
 use interrupt::GicVcpuId;

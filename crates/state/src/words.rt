@@ -1,7 +1,6 @@
 // What the words of a state mean, and what is written for it: two functions for each kind of slot.
 ghost use mathlib.Core.Path.{_≡_};
-ghost use Prim.Native.Nat.{_<_};
-ghost use Rattle.state.specs.Layout.{DistributorControl, Interface, Sources, Stack, Room};
+ghost use Rattle.state.specs.Layout.{Interface, Sources, Stack, Room};
 ghost use Rattle.state.specs.Words.{Reached, Holds, recordAt, withRecord, sourcesAt, withSources, kept, interfaceAt, withInterface, enabledAt, withEnabledAt, entryOf, entryWord, entryAt, withEntry, withoutEntry};
 use crate::layout::InterfaceValue;
 use crate::layout::Shape;

@@ -1,5 +1,5 @@
 -- Target bytes: document 01, "Distributor places"; IHI 0048, 4.3.12, "Interrupt Processor Targets Registers".
-use mathlib.Core.Bool.{Bool, cond, _&&_}
+use mathlib.Core.Bool.{cond, _&&_}
 use mathlib.Core.List.{List}
 use Prim.Native.Nat.{ℕ, _%_, _^_}
 use lib.Dec.{leb, ltb}

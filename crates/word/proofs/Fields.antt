@@ -2,7 +2,7 @@
 -- fields read off a word pack to it. Assumes nothing.
 use mathlib.Core.Path.{_≡_, refl, sym}
 use mathlib.Core.List.{List, [], _∷_}
-use Prim.Native.Nat.{ℕ, zero, suc, _+_, _*_, _/_, _%_, _^_, _<_}
+use Prim.Native.Nat.{ℕ, zero, suc, _+_, _*_, _/_, _^_, _<_}
 use native.Mathlib.Nat.{div-one, mod-one, add-comm}
 use native.Mathlib.Omega.{arith}
 use lib.Arith.{digits-lt}

@@ -7,7 +7,7 @@ use native.Mathlib.Nat.{not-suc-le-zero, mul-suc, mul-zero, zero-mul, one-mul, m
 use native.Mathlib.Omega.{arith}
 use lib.Arith.{digits-lt}
 use lib.Dec.{eqb}
-use lib.Pow.{pow-pos, pow-mono, pow-add, high, low, mod-mod-pow, shl-exact}
+use lib.Pow.{pow-mono, pow-add, high, low, mod-mod-pow, shl-exact}
 use borrow.Author.Tests.{eqb-true, eqb-false}
 use Rattle.word.specs.Fields.{field, fieldAt, gathered}
 

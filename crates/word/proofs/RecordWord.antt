@@ -10,7 +10,7 @@ use lib.Dec.{eqb}
 use borrow.Author.Tests.{eqb-true, eqb-false, ne-eqb}
 use Rattle.word.proofs.Fields.{Fit, breadth, at, place, packed-fits, field-packed, fieldsFrom, sum, packed-fields}
 use Rattle.interrupt.specs.Types.{isLevel}
-use Rattle.word.specs.Fields.{Field, bits, field, packed}
+use Rattle.word.specs.Fields.{bits, field, packed}
 use Rattle.interrupt.specs.Record.{made}
 use Rattle.word.specs.Word.{flag, triggerOf, maskOf, ownerOf, recordOf, bitOf, isSet, maskByte, ownerByte, fieldsOf, wordOf, ownerInRange, InRange, Canonical}
 use Rattle.interrupt.specs.declared.types.TriggerMode.{TriggerMode}

@@ -1,0 +1,62 @@
+-- What an access to a byte register reads and does, number by number, for all four registers and the three widths at once. Assumes nothing.
+use mathlib.Core.Path.{_≡_}
+use mathlib.Core.Bool.{_&&_}
+use mathlib.Core.List.{List}
+use Prim.Native.Nat.{ℕ, _+_, _≤_, _<_}
+use native.Mathlib.Omega.{arith}
+use lib.Dec.{leb, ltb}
+use borrow.Author.Tests.{leb-true, ltb-true}
+use Rattle.interrupt.specs.Record.{setPriority, setCpuTargetMask}
+use Rattle.register.specs.declared.ranges.ByteRegister.{ByteRegister}
+use Rattle.register.specs.declared.ranges.ByteRegister.the-variants.{Ipriorityr, Itargetsr, Cpendsgir, Spendsgir}
+use Rattle.word.specs.Fields.{fieldAt}
+use Rattle.word.proofs.Gathered.{gathered-field}
+use Rattle.state.specs.declared.layout.Shape.{Shape}
+use Rattle.state.specs.Layout.{Slot, Exists, Limits}
+use Rattle.state.specs.Words.{wordAt}
+use Rattle.state.proofs.Accessors.{record-exists}
+use Rattle.state.proofs.Numbers.{Of, if-local, changed-local, run-written, run-others}
+use Rattle.state.proofs.Steps.{Agree, Local}
+use Rattle.state.proofs.Tests.{left-true, right-true}
+use Rattle.targets.specs.Targets.{existingBits, writeTarget}
+use Rattle.sgi.proofs.Rings.{clear-local, set-local}
+use Rattle.distributor.specs.Bytes.{writePriority, readByte, writeByte, readBytes, writeBytes, ByteThere, BytesAt}
+use Rattle.distributor.proofs.ByteLaws.{byte-below}
+
+-- byte i of what is read is the number's byte
+pub bytes-read : (shape : Shape) (register : ByteRegister) (v first count : ℕ) (s : List ℕ) (i : ℕ) → i < count
+    → fieldAt 8 i (readBytes shape register v first count s) ≡ readByte shape register v s (first + i)
+unfolding readBytes
+bytes-read shape register v first count s i h =
+    gathered-field 8 (λ j. readByte shape register v s (first + j)) (λ j. byte-below shape register v s (first + j)) count i h
+
+-- a byte's write touches its number alone
+byte-local : (shape : Shape) (register : ByteRegister) (v n byte : ℕ) → Limits shape → ByteThere shape register v n → Local shape (Of v n) (writeByte shape register v n byte)
+unfolding writePriority writeTarget
+byte-local shape Ipriorityr v n byte l there =
+    if-local (ltb n (shape .limit))
+    (λ e. changed-local shape v n (λ r. setPriority r (record { 0 = byte })) (record-exists shape v n (record { numbered = ltb-true n (shape .limit) e; banked = there })))
+byte-local shape Itargetsr v n byte l there =
+    if-local (leb 32 n && ltb n (shape .limit))
+    (λ e.
+    let h : 32 ≤ n = leb-true 32 n (left-true (leb 32 n) (ltb n (shape .limit)) e) in
+    let b : n < shape .limit = ltb-true n (shape .limit) (right-true (leb 32 n) (ltb n (shape .limit)) e) in
+    changed-local shape v n (λ r. setCpuTargetMask r (existingBits shape byte)) (record-exists shape v n (record { numbered = b; banked = λ p. absurd (omega arith) })))
+byte-local shape Cpendsgir v n byte l there = clear-local shape v n l there byte
+byte-local shape Spendsgir v n byte l there = set-local shape v n l there byte
+
+module _ (shape : Shape) (register : ByteRegister) (v first count value : ℕ) (s : List ℕ) (at : BytesAt shape register v first count s) where
+  step : (i : ℕ) → i < count → Local shape (Of v (first + i)) (writeByte shape register v (first + i) (fieldAt 8 i value))
+  step i h = byte-local shape register v (first + i) (fieldAt 8 i value) (at .state .limits) (at .there i h)
+
+  -- a write does to each of its numbers what its byte alone does
+  pub bytes-written : (i : ℕ) → i < count
+      → Agree shape (Of v (first + i)) (writeBytes shape register v first count value s) (writeByte shape register v (first + i) (fieldAt 8 i value) s)
+  unfolding writeBytes
+  bytes-written i h = run-written shape v first count (λ j. writeByte shape register v (first + j) (fieldAt 8 j value)) s step (at .state) i h
+
+  -- .. and nothing to any other slot
+  pub bytes-others : (t : Slot) → Exists shape t → ((i : ℕ) → i < count → Of v (first + i) t → ⊥)
+      → wordAt shape t (writeBytes shape register v first count value s) ≡ wordAt shape t s
+  unfolding writeBytes
+  bytes-others t e away = run-others shape v first count (λ j. writeByte shape register v (first + j) (fieldAt 8 j value)) s step t e away

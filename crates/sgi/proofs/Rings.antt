@@ -1,0 +1,89 @@
+-- What the registers of SGI sources and SGIR do, slot by slot: each step touches one SGI at one vCPU, its source set and its record alone; a
+-- ring leaves the sender's source bit set, with every other, and the SGI pending. Assumes nothing.
+use mathlib.Core.Path.{_≡_, refl, sym, ap, _∙_}
+use mathlib.Core.Bool.{true, not}
+use mathlib.Core.List.{List}
+use mathlib.Core.Logic.{inl, inr}
+use Prim.Native.Nat.{ℕ, _-_, _%_, _^_, _<_}
+use native.Mathlib.Omega.{arith}
+use lib.Bits.{bitAnd, bitOr, or-lt}
+use lib.Dec.{eqb}
+use lib.Pow.{pow-lt}
+use Rattle.interrupt.specs.Record.{setPending}
+use Rattle.interrupt.specs.declared.record.InterruptRecord.{InterruptRecord}
+use Rattle.word.specs.Word.{recordOf, wordOf, InRange}
+use Rattle.word.proofs.RecordWord.{decoded-in-range}
+use Rattle.state.specs.declared.layout.Shape.{Shape}
+use Rattle.state.specs.Layout.{Slot, Sources, Exists, Limits, Room}
+use Rattle.state.specs.Words.{wordAt, recordSlot, recordAt, sourcesAt, withSources}
+use Rattle.state.proofs.Accessors.{put-room, put-other, record-exists, record-same, sources-same, record-no-sources}
+use Rattle.state.proofs.Numbers.{Of, one-vcpu, then-local, if-local, unless-local, put-local, changed-local, sources-local}
+use Rattle.state.proofs.Steps.{Agree, Local, steps-own, steps-others}
+use Rattle.sgi.specs.declared.SgiTarget.{SgiTarget}
+use Rattle.sgi.specs.Sgi.{pendBySources, clearSources, setSources, pendSgi, includes, sentTo, sendSgi}
+
+pub sgi-exists : (shape : Shape) (v n : ℕ) → Limits shape → Exists shape (Sources v n) → Exists shape (recordSlot v n)
+sgi-exists shape v n l e = record-exists shape v n (record { numbered = omega arith; banked = λ b. e .0 })
+
+module _ (shape : Shape) (v n : ℕ) (l : Limits shape) (e : Exists shape (Sources v n)) where
+  same-sources : (s r : List ℕ) → Agree shape (Of v n) s r → sourcesAt shape v n s ≡ sourcesAt shape v n r
+  same-sources s r a = ap (λ (w : ℕ). w % 256) (a .agree (Sources v n) e (inr refl))
+
+  pend-local : Local shape (Of v n) (pendBySources shape v n)
+  pend-local =
+      put-local shape (Of v n) (recordSlot v n) (λ s. wordOf (setPending (recordAt shape v n s) (not (eqb (sourcesAt shape v n s) 0)))) (sgi-exists shape v n l e) (inl refl)
+      (λ s r a. simp (same-sources s r a, a .agree (recordSlot v n) (sgi-exists shape v n l e) (inl refl)))
+
+  pub clear-local : (byte : ℕ) → Local shape (Of v n) (clearSources shape v n byte)
+  unfolding clearSources
+  clear-local byte =
+      unless-local (eqb byte 0)
+      (then-local (sources-local shape v n (λ s. bitAnd (sourcesAt shape v n s) (255 - byte)) e (λ s r a. ap (λ (x : ℕ). bitAnd x (255 - byte)) (same-sources s r a))) pend-local)
+
+  pub set-local : (byte : ℕ) → Local shape (Of v n) (setSources shape v n byte)
+  unfolding setSources
+  set-local byte =
+      unless-local (eqb byte 0)
+      (then-local (sources-local shape v n (λ s. bitOr (sourcesAt shape v n s) byte) e (λ s r a. ap (λ (x : ℕ). bitOr x byte) (same-sources s r a))) pend-local)
+
+  pub ring-local : (source : ℕ) → Local shape (Of v n) (pendSgi shape v source n)
+  unfolding pendSgi
+  ring-local source =
+      then-local (sources-local shape v n (λ s. bitOr (sourcesAt shape v n s) (2 ^ source)) e (λ s r a. ap (λ (x : ℕ). bitOr x (2 ^ source)) (same-sources s r a)))
+      (changed-local shape v n (λ r. setPending r true) (sgi-exists shape v n l e))
+
+-- SGIR: each existing vCPU gets what its own ring makes of the start ..
+module _ (shape : Shape) (source n : ℕ) (target : SgiTarget) (s : List ℕ) (h : Room shape s) (sgi : n < 16) where
+  sent : (v : ℕ) → v < shape .count → Local shape (Of v n) (sentTo shape target source n v)
+  sent v b = if-local (includes target source v) (λ p. ring-local shape v n (h .limits) (b, sgi) source)
+
+  pub sgi-sent : (v : ℕ) → v < shape .count → Agree shape (Of v n) (sendSgi shape source n target s) (sentTo shape target source n v s)
+  unfolding sendSgi
+  sgi-sent v b =
+      steps-own shape (λ u. Of u n) (sentTo shape target source n) (λ i j t a c. one-vcpu i j n t (omega arith) a c) (shape .count) s sent h v b
+
+  -- .. and nothing else changes
+  pub sgi-others : (t : Slot) → Exists shape t → ((v : ℕ) → v < shape .count → Of v n t → ⊥) → wordAt shape t (sendSgi shape source n target s) ≡ wordAt shape t s
+  unfolding sendSgi
+  sgi-others t e away = steps-others shape (λ u. Of u n) (sentTo shape target source n) (shape .count) s sent t e away
+
+-- a ring: the sender's bit joins the others, and the SGI is pending
+module _ (shape : Shape) (v source n : ℕ) (s : List ℕ) (h : Room shape s) (e : Exists shape (Sources v n)) (b : source < 8) where
+  pub ring-sources : sourcesAt shape v n (pendSgi shape v source n s) ≡ bitOr (sourcesAt shape v n s) (2 ^ source)
+  unfolding pendSgi
+  ring-sources =
+      let after = withSources shape v n (bitOr (sourcesAt shape v n s) (2 ^ source)) s in
+      ap (λ (w : ℕ). w % 256) (put-other shape after (Sources v n) (recordSlot v n) (wordOf (setPending (recordAt shape v n after) true)) e (sgi-exists shape v n (h .limits) e) (λ p. record-no-sources v n v n (sym p)))
+      ∙ sources-same shape s v n (bitOr (sourcesAt shape v n s) (2 ^ source)) h e (or-lt 8 (sourcesAt shape v n s) (2 ^ source) (omega arith) (pow-lt b))
+
+  pub ring-pends : recordAt shape v n (pendSgi shape v source n s) ≡ setPending (recordAt shape v n s) true
+  unfolding pendSgi
+  ring-pends =
+      let x = bitOr (sourcesAt shape v n s) (2 ^ source) in
+      let after = withSources shape v n x s in
+      let r = recordAt shape v n after in
+      record-same shape after v n (setPending r true) (put-room shape s (Sources v n) x h) (sgi-exists shape v n (h .limits) e) (pended r (decoded-in-range (wordAt shape (recordSlot v n) after)))
+      ∙ ap (λ (w : ℕ). setPending (recordOf w) true) (put-other shape s (recordSlot v n) (Sources v n) x (sgi-exists shape v n (h .limits) e) e (record-no-sources v n v n))
+    where
+      pended : (r : InterruptRecord) → InRange r → InRange (setPending r true)
+      pended r i = unfold setPending in record { priority-byte = i .priority-byte; mask-byte = i .mask-byte; owner-byte = i .owner-byte }

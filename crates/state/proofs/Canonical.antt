@@ -1,0 +1,87 @@
+-- A state as we write it stays one, whatever is written by the accessors: equal states stay equal words. Assumes nothing.
+use mathlib.Core.Path.{_≡_, sym, _∙_, subst}
+use mathlib.Core.Bool.{Bool, true, false, cond}
+use mathlib.Core.List.{List}
+use Prim.Native.Nat.{ℕ, _≤_, _<_}
+use native.Mathlib.Omega.{arith}
+use lib.Dec.{ltb}
+use Rattle.interrupt.specs.declared.record.InterruptRecord.{InterruptRecord}
+use Rattle.word.specs.Word.{bitOf, wordOf, InRange}
+use Rattle.word.proofs.RecordWord.{encoded-canonical}
+use Rattle.state.specs.declared.layout.Shape.{Shape}
+use Rattle.state.specs.declared.layout.InterfaceValue.{InterfaceValue}
+use Rattle.state.specs.declared.layout.InterfaceValue.the-variants.{Control, PriorityMask, BinaryPoint, Depth}
+use Rattle.state.specs.declared.words.Entry.{Entry}
+use Rattle.state.specs.Layout.{Slot, Count, Limit, DistributorControl, Interface, Sources, Private, Spi, Stack, Exists, Room}
+use Rattle.state.specs.Words.{wordAt, put, recordSlot, withRecord, withSources, kept, withInterface, withEnabledAt, entryWord, withEntry, CanonicalWord, Canonical}
+use Rattle.state.proofs.Accessors.{put-other, put-written, kept-kept}
+
+-- a slot that says nothing of what lies on a stack
+abbrev pub OffStack : Slot → Type 0
+OffStack Count = Unit
+OffStack Limit = Unit
+OffStack DistributorControl = Unit
+OffStack (Interface v Control) = Unit
+OffStack (Interface v PriorityMask) = Unit
+OffStack (Interface v BinaryPoint) = Unit
+OffStack (Interface v Depth) = ⊥
+OffStack (Sources v n) = Unit
+OffStack (Private v n) = Unit
+OffStack (Spi n) = Unit
+OffStack (Stack v i) = ⊥
+
+module _ (shape : Shape) (s : List ℕ) (h : Room shape s) (c : Canonical shape s) where
+  pub put-canonical : (u : Slot) (w : ℕ) → Exists shape u → OffStack u → CanonicalWord u w → Canonical shape (put shape u w s)
+  put-canonical u w e off cw = record {
+    written = put-written shape s u w h e cw (c .written);
+    cleared = λ v i b d l.
+        put-other shape s (Stack v i) u w (b, l) e (λ p. subst OffStack (sym p) off)
+        ∙ c .cleared v i b (rw (put-other shape s (Interface v Depth) u w b e (λ p. subst OffStack (sym p) off)) at d) l;
+  }
+
+  record-off : (v n : ℕ) → OffStack (recordSlot v n)
+  unfolding recordSlot
+  record-off v n = go (ltb n 32)
+    where
+      go : (b : Bool) → OffStack (cond b (Private v n) (Spi n))
+      go true = tt
+      go false = tt
+
+  record-word : (v n : ℕ) (r : InterruptRecord) → InRange r → CanonicalWord (recordSlot v n) (wordOf r)
+  unfolding recordSlot
+  record-word v n r i = go (ltb n 32)
+    where
+      go : (b : Bool) → CanonicalWord (cond b (Private v n) (Spi n)) (wordOf r)
+      go true = encoded-canonical r i
+      go false = encoded-canonical r i
+
+  pub record-canonical : (v n : ℕ) (r : InterruptRecord) → Exists shape (recordSlot v n) → InRange r → Canonical shape (withRecord shape v n r s)
+  record-canonical v n r e i = put-canonical (recordSlot v n) (wordOf r) e (record-off v n) (record-word v n r i)
+
+  pub sources-canonical : (v n x : ℕ) → Exists shape (Sources v n) → x < 256 → Canonical shape (withSources shape v n x s)
+  sources-canonical v n x e b = put-canonical (Sources v n) x e tt b
+
+  pub interface-canonical : (v : ℕ) (k : InterfaceValue) (x : ℕ) → v < shape .count → OffStack (Interface v k) → Canonical shape (withInterface shape v k x s)
+  interface-canonical v k x e off = put-canonical (Interface v k) (kept k x) e off (kept-kept k x)
+
+  pub enabled-canonical : (on : Bool) → Canonical shape (withEnabledAt shape on s)
+  enabled-canonical on = put-canonical DistributorControl (bitOf on) tt tt (below on)
+    where
+      below : (b : Bool) → bitOf b < 2
+      below true = omega arith
+      below false = omega arith
+
+  -- an entry in use
+  pub entry-canonical : (v i : ℕ) (e : Entry) → Exists shape (Stack v i) → i < wordAt shape (Interface v Depth) s → e .priority .0 < 256 → Canonical shape (withEntry shape v i e s)
+  entry-canonical v i e x used b = record {
+    written = put-written shape s (Stack v i) (entryWord e) h x (omega arith) (c .written);
+    cleared = λ u j bu d l.
+        put-other shape s (Stack u j) (Stack v i) (entryWord e) (bu, l) x (λ p. above u j p (rw (depth-stays u bu) at d))
+        ∙ c .cleared u j bu (rw (depth-stays u bu) at d) l;
+  }
+    where
+      depth-stays : (u : ℕ) → u < shape .count → wordAt shape (Interface u Depth) (put shape (Stack v i) (entryWord e) s) ≡ wordAt shape (Interface u Depth) s
+      depth-stays u bu = put-other shape s (Interface u Depth) (Stack v i) (entryWord e) bu x (λ p. let z : _≡_ {A = ℕ} 0 1 = cc in omega arith)
+
+      above : (u j : ℕ) → Stack u j ≡ Stack v i → wordAt shape (Interface u Depth) s ≤ j → ⊥
+      above u j p d = let q : j ≡ i = cc in let r : u ≡ v = cc in let d2 = rw r at d in omega arith
