@@ -35,7 +35,7 @@ fn is_config(register: BitRegister) -> bool
     }
 }
 
-fn per_word(register: BitRegister) -> u32
+pub fn per_word(register: BitRegister) -> u32
     ensures { λ r. ⌜ (r ≡ perWord register) × (r < 33) ⌝ }
 {
     if is_config(register) { 16 } else { 32 }
