@@ -1,9 +1,7 @@
 -- What the program tests before it calls a module: that the access lies where the module asks it to.
-use mathlib.Core.Bool.{Bool, true, false}
 use Prim.Native.Nat.{ℕ, _+_, _≤_, _<_}
 use Rattle.register.specs.declared.ranges.BitRegister.{BitRegister}
 use Rattle.register.specs.declared.ranges.ByteRegister.{ByteRegister}
-use Rattle.register.specs.declared.ranges.ByteRegister.the-variants.{Ipriorityr, Itargetsr, Cpendsgir, Spendsgir}
 use Rattle.state.specs.declared.layout.Shape.{Shape}
 use Rattle.bits.specs.Bits.{perWord}
 use Rattle.distributor.specs.Bytes.{ByteThere}
@@ -11,12 +9,6 @@ use Rattle.distributor.specs.Bytes.{ByteThere}
 pub record WordFits (shape : Shape) (register : BitRegister) (v first : ℕ) : Type 0 where
   pub together : first < 32 → first + perWord register ≤ 32
   pub banked : first < 32 → v < shape .count
-
-abbrev pub isSources : ByteRegister → Bool
-isSources Ipriorityr = false
-isSources Itargetsr = false
-isSources Cpendsgir = true
-isSources Spendsgir = true
 
 pub record BytesFit (shape : Shape) (register : ByteRegister) (v first count : ℕ) : Type 0 where
   pub short : count ≤ 4

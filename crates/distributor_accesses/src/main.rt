@@ -3,7 +3,7 @@
 ghost use mathlib.Core.Path.{_≡_};
 ghost use mathlib.Core.Bool.{true};
 ghost use Rattle.state.specs.Layout.{Room};
-ghost use Rattle.distributor_accesses.specs.Reach.{WordFits, isSources, BytesFit};
+ghost use Rattle.distributor_accesses.specs.Reach.{WordFits, BytesFit};
 use bits::per_word;
 use bits::read_bits;
 use bits::write_bits;
@@ -80,17 +80,6 @@ fn write_word(
     }
 }
 
-fn is_sources(register: ByteRegister) -> bool
-    ensures { λ r. ⌜ r ≡ isSources register ⌝ }
-{
-    match register {
-        ByteRegister::Ipriorityr => false,
-        ByteRegister::Itargetsr => false,
-        ByteRegister::Cpendsgir => true,
-        ByteRegister::Spendsgir => true,
-    }
-}
-
 fn bytes_fit(
     shape: Shape,
     vcpu: GicVcpuId,
@@ -106,13 +95,13 @@ fn bytes_fit(
     if 1020 <= first.0 {
         return false;
     }
-    if shape.count <= vcpu.0 {
-        return false;
-    }
-    if is_sources(register) {
-        first.0 + count <= 16
-    } else {
-        true
+    let exists = vcpu.0 < shape.count;
+    let sgis = first.0 + count <= 16;
+    match register {
+        ByteRegister::Ipriorityr => exists,
+        ByteRegister::Itargetsr => true,
+        ByteRegister::Cpendsgir => exists & sgis,
+        ByteRegister::Spendsgir => exists & sgis,
     }
 }
 
@@ -337,6 +326,19 @@ fn accesses(words: &mut [u32], shape: Shape, seed: u64)
     }
 }
 
+// The scope document's corners among these registers: TYPER, target bytes of any vCPU, and a target mask cut to existing vCPUs.
+fn corners(words: &mut [u32], shape: Shape)
+    requires { ⌜ Room shape (now words) ⌝ }
+{
+    read(words, shape, 0, 0x004, AccessWidth::Dword);
+    read(words, shape, 0, 0x008, AccessWidth::Dword);
+    read(words, shape, 2, 0x81C, AccessWidth::Dword);
+    read(words, shape, 7, 0x81C, AccessWidth::Dword);
+    read(words, shape, 8, 0x81C, AccessWidth::Dword);
+    write(words, shape, 0, 0x820, AccessWidth::Dword, 0xFFFF_01F0);
+    read(words, shape, 0, 0x820, AccessWidth::Dword);
+}
+
 fn run(words: &mut [u32], count: u64, limit: u64, seed: u64) {
     let Limited::Within(shape) = validate_limits(count, limit) else {
         return;
@@ -350,14 +352,16 @@ fn run(words: &mut [u32], count: u64, limit: u64, seed: u64) {
     show(b" ");
     number(limit);
     show_answer(0);
+    corners(words, shape);
     accesses(words, shape, seed);
     sweep(words, shape, 0);
 }
 
 fn main() {
     let mut words = [0u32; 3447];
-    run(&mut words, 1, 32, 1);
-    run(&mut words, 2, 40, 2);
-    run(&mut words, 4, 34, 3);
-    run(&mut words, 8, 1020, 4);
+    run(&mut words, 4, 34, 1);
+    run(&mut words, 4, 64, 2);
+    run(&mut words, 1, 32, 3);
+    run(&mut words, 2, 33, 4);
+    run(&mut words, 8, 1020, 5);
 }

@@ -1,6 +1,6 @@
 -- `bits::clear_active` meets its contract. Assumes nothing.
-use Rattle.bits.specs.Bits.{clearActive}
 use borrow.Author.Needs.{needs}
+use Rattle.bits.specs.Bits.{clearActive}
 use Rattle.bits.proofs.clear_active.Statement.{statement}
 use Rattle.bits.proofs.clear_active.Tie as tie
 

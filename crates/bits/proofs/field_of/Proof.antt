@@ -1,8 +1,8 @@
 -- `bits::field_of` meets its contract. Assumes nothing.
 use mathlib.Core.Bool.{true, false}
-use Rattle.bits.specs.Bits.{isConfig}
 use mathlib.Core.Path.{_≡_, sym, _∙_}
 use borrow.Author.Needs.{needs}
+use Rattle.bits.specs.Bits.{isConfig}
 use Rattle.bits.proofs.field_of.Statement.{statement}
 use Rattle.bits.proofs.field_of.Tie as tie
 

@@ -1,9 +1,9 @@
 -- `bits::field_placed` meets its contract. Assumes nothing.
-use lib.Pow.{shl-exact}
-use Rattle.bits.specs.Bits.{fieldBits}
 use mathlib.Core.Path.{_∙_}
 use native.Mathlib.Omega.{arith}
+use lib.Pow.{shl-exact}
 use borrow.Author.Needs.{needs}
+use Rattle.bits.specs.Bits.{fieldBits}
 use Rattle.bits.proofs.field_placed.Statement.{statement}
 use Rattle.bits.proofs.field_placed.Tie as tie
 

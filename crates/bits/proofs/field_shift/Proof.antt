@@ -1,9 +1,9 @@
 -- `bits::field_shift` meets its contract. Assumes nothing.
 use mathlib.Core.Bool.{true, false}
-use Rattle.bits.specs.Bits.{isConfig}
 use mathlib.Core.Path.{_≡_, sym, _∙_}
 use native.Mathlib.Omega.{arith}
 use borrow.Author.Needs.{needs}
+use Rattle.bits.specs.Bits.{isConfig}
 use Rattle.bits.proofs.field_shift.Statement.{statement}
 use Rattle.bits.proofs.field_shift.Tie as tie
 

@@ -1,12 +1,10 @@
 -- `bits::read_bits` meets its contract. Assumes nothing.
-use Rattle.bits.proofs.Runs.{run-inside, run-reads, none-reads}
+use mathlib.Core.Path.{sym, _∙_}
+use Prim.Native.Nat.{_+_, _≤_}
+use borrow.Author.Needs.{needs}
 use Rattle.bits.specs.Bits.{perWord, WordAt, Existing}
 use Rattle.state.specs.Layout.{size}
-use Prim.Native.Nat.{_+_, _≤_}
 use Rattle.bits.proofs.Runs.{run-inside, run-reads, none-reads}
-use Rattle.bits.specs.Bits.{WordAt}
-use mathlib.Core.Path.{sym, _∙_}
-use borrow.Author.Needs.{needs}
 use Rattle.bits.proofs.read_bits.Statement.{statement}
 use Rattle.bits.proofs.read_bits.Tie as tie
 

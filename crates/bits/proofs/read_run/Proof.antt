@@ -1,14 +1,14 @@
 -- `bits::read_run` meets its contract. Assumes nothing.
-use Rattle.bits.proofs.Runs.{run-fits}
-use Rattle.bits.proofs.BitLaws.{field-below}
+use mathlib.Core.Path.{_≡_}
+use Prim.Native.Nat.{_≤_, _-_}
 use native.Mathlib.Nat.{lt-of-lt-of-le}
+use native.Mathlib.Numerals.{add-one}
+use native.Mathlib.Omega.{arith}
 use borrow.Author.Needs.{needs}
 use Rattle.bits.specs.Bits.{fieldBits, fieldIn}
 use Rattle.word.specs.Fields.{gathered}
-use native.Mathlib.Numerals.{add-one}
-use Prim.Native.Nat.{_≤_, _-_}
-use mathlib.Core.Path.{_≡_}
-use native.Mathlib.Omega.{arith}
+use Rattle.bits.proofs.BitLaws.{field-below}
+use Rattle.bits.proofs.Runs.{run-fits}
 use Rattle.bits.proofs.read_run.Statement.{statement}
 use Rattle.bits.proofs.read_run.Tie as tie
 

@@ -1,10 +1,10 @@
 -- `bits::write_bits` meets its contract. Assumes nothing.
-use Rattle.bits.proofs.Runs.{run-inside, run-writes, none-writes}
+use mathlib.Core.Path.{sym, _∙_}
+use Prim.Native.Nat.{_+_, _≤_}
+use borrow.Author.Needs.{needs}
 use Rattle.bits.specs.Bits.{perWord, WordAt, Existing}
 use Rattle.state.specs.Layout.{size}
-use Prim.Native.Nat.{_+_, _≤_}
-use mathlib.Core.Path.{sym, _∙_}
-use borrow.Author.Needs.{needs}
+use Rattle.bits.proofs.Runs.{run-inside, run-writes, none-writes}
 use Rattle.bits.proofs.write_bits.Statement.{statement}
 use Rattle.bits.proofs.write_bits.Tie as tie
 

@@ -1,13 +1,13 @@
 -- `bits::write_run` meets its contract. Assumes nothing.
+use mathlib.Core.Path.{_≡_, _∙_}
+use Prim.Native.Nat.{_≤_, _-_}
+use native.Mathlib.Nat.{lt-of-lt-of-le}
+use native.Mathlib.Numerals.{add-one}
+use native.Mathlib.Omega.{arith}
+use lib.ListN.{length}
 use borrow.Author.Needs.{needs}
 use Rattle.bits.specs.Bits.{writeIn}
 use Rattle.state.specs.Loop.{upTo}
-use native.Mathlib.Nat.{lt-of-lt-of-le}
-use native.Mathlib.Numerals.{add-one}
-use lib.ListN.{length}
-use Prim.Native.Nat.{_≤_, _-_}
-use mathlib.Core.Path.{_≡_, _∙_}
-use native.Mathlib.Omega.{arith}
 use Rattle.bits.proofs.write_run.Statement.{statement}
 use Rattle.bits.proofs.write_run.Tie as tie
 

@@ -1,8 +1,8 @@
 -- `distributor_accesses::accesses` meets its contract. Assumes nothing.
-use borrow.Author.Needs.{needs}
-use lib.ListN.{length}
-use Prim.Native.Nat.{_≤_, _-_}
 use mathlib.Core.Path.{_≡_}
+use Prim.Native.Nat.{_≤_, _-_}
+use lib.ListN.{length}
+use borrow.Author.Needs.{needs}
 use Rattle.distributor_accesses.proofs.accesses.Statement.{statement}
 use Rattle.distributor_accesses.proofs.accesses.Tie as tie
 

@@ -1,9 +1,11 @@
 -- `distributor_accesses::bytes_fit` meets its contract. Assumes nothing.
-use Rattle.distributor_accesses.proofs.Fits.{bytes-there}
 use mathlib.Core.Bool.{true, false, false≢true}
-use mathlib.Core.Path.{sym, _∙_}
-use borrow.Author.Tests.{leb-true}
+use Prim.Native.Nat.{_+_, _≤_, _<_}
+use native.Mathlib.Omega.{arith}
+use lib.Dec.{leb, ltb}
 use borrow.Author.Needs.{needs}
+use borrow.Author.Tests.{ltb-true, leb-true}
+use Rattle.state.proofs.Tests.{left-true, right-true}
 use Rattle.distributor_accesses.proofs.bytes_fit.Statement.{statement}
 use Rattle.distributor_accesses.proofs.bytes_fit.Tie as tie
 
@@ -13,30 +15,55 @@ returns c = λ e. absurd (false≢true e)
 returns-2 : tie.Need-returns-2
 returns-2 c = λ e. absurd (false≢true e)
 
+add-sgis : tie.Need-add-sgis
+add-sgis c = search needs
+
+enum-told : tie.Need-enum-told
+enum-told c = search needs
+
+enum-told-2 : tie.Need-enum-told-2
+enum-told-2 c = search needs
+
+enum-told-3 : tie.Need-enum-told-3
+enum-told-3 c = search needs
+
+enum-told-4 : tie.Need-enum-told-4
+enum-told-4 c = search needs
+
 returns-3 : tie.Need-returns-3
-returns-3 c = λ e. absurd (false≢true e)
-
-is-sources-requires : tie.Need-is-sources-requires
-is-sources-requires c κs = search needs
-
-add-result : tie.Need-add-result
-add-result c = search needs
+returns-3 c = λ e. rw (c .enum-told .given .1) (record { short = c .before .before .before .before .before .before .before .if1 .left; numbered = c .before .before .before .before .before .if2 .left; there = λ i h p. ltb-true _ _ e })
 
 returns-4 : tie.Need-returns-4
-returns-4 c = λ e. record {
-  short = c .before .before .before .before .before .before .before .before .if1 .left;
-  numbered = c .before .before .before .before .before .before .if2 .left;
-  there = λ i h. bytes-there (c .before .before .before .before .before .before .before .before .before .args .shape) (c .before .before .before .before .before .before .before .before .before .args .register) _ _ _ i (c .before .before .before .if3 .left) (λ q. leb-true _ _ e) h;
-}
+returns-4 c = λ e. rw (c .enum-told2 .given .1) (record { short = c .before .before .before .before .before .before .before .if1 .left; numbered = c .before .before .before .before .before .if2 .left; there = λ i h. tt })
 
 returns-5 : tie.Need-returns-5
-returns-5 c = λ e. record {
-  short = c .before .before .before .before .before .before .before .if1 .left;
-  numbered = c .before .before .before .before .before .if2 .left;
-  there = λ i h. bytes-there (c .before .before .before .before .before .before .before .before .args .shape) (c .before .before .before .before .before .before .before .before .args .register) _ _ _ i (c .before .before .if3 .left) (λ q. absurd (false≢true (sym (c .if4 .left) ∙ c .before .is-sources .ensures ∙ q))) h;
-}
+returns-5 c =
+    λ e.
+    let a = c .before .before .before .before .before .before .before .before .args in
+    let b : a .vcpu .0 < a .shape .count = ltb-true (a .vcpu .0) (a .shape .count) (left-true (ltb (a .vcpu .0) (a .shape .count)) (leb (a .first .0 + a .count) 16) e) in
+    let k : a .first .0 + a .count ≤ 16 = leb-true (a .first .0 + a .count) 16 (right-true (ltb (a .vcpu .0) (a .shape .count)) (leb (a .first .0 + a .count) 16) e) in
+    rw (c .enum-told3 .given .1) (record { short = c .before .before .before .before .before .before .before .if1 .left; numbered = c .before .before .before .before .before .if2 .left; there = λ i h. (b, omega arith) })
+
+returns-6 : tie.Need-returns-6
+returns-6 c =
+    λ e.
+    let a = c .before .before .before .before .before .before .before .before .args in
+    let b : a .vcpu .0 < a .shape .count = ltb-true (a .vcpu .0) (a .shape .count) (left-true (ltb (a .vcpu .0) (a .shape .count)) (leb (a .first .0 + a .count) 16) e) in
+    let k : a .first .0 + a .count ≤ 16 = leb-true (a .first .0 + a .count) 16 (right-true (ltb (a .vcpu .0) (a .shape .count)) (leb (a .first .0 + a .count) 16) e) in
+    rw (c .enum-told4 .given .1) (record { short = c .before .before .before .before .before .before .before .if1 .left; numbered = c .before .before .before .before .before .if2 .left; there = λ i h. (b, omega arith) })
 
 pub bytes-fit-spec : {M : Type 1} → statement M
 bytes-fit-spec =
     tie.close
-    (tie.spec returns returns-2 returns-3 is-sources-requires add-result returns-4 returns-5)
+    (tie.spec
+    returns
+    returns-2
+    add-sgis
+    enum-told
+    enum-told-2
+    enum-told-3
+    enum-told-4
+    returns-3
+    returns-4
+    returns-5
+    returns-6)

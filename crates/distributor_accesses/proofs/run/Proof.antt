@@ -1,7 +1,7 @@
 -- `distributor_accesses::run` meets its contract. Assumes nothing.
-use Rattle.state.proofs.Validated.{limited-limits}
 use mathlib.Core.Path.{sym, _∙_}
 use borrow.Author.Needs.{needs}
+use Rattle.state.proofs.Validated.{limited-limits}
 use Rattle.distributor_accesses.proofs.run.Statement.{statement}
 use Rattle.distributor_accesses.proofs.run.Tie as tie
 
@@ -47,11 +47,14 @@ number-requires-2 c κs = search needs
 show-answer-requires : tie.Need-show-answer-requires
 show-answer-requires c κs = search needs
 
+corners-requires : tie.Need-corners-requires
+corners-requires c κs = record { limits = limited-limits _ _ _ (sym (c .before .before .before .before .before .before .before .before .before .before .before .before .before .before .before .before .before .validate-limits .ensures) ∙ c .before .before .before .before .before .before .before .before .before .before .before .before .before .before .before .shape .given .1); room = search needs }
+
 accesses-requires : tie.Need-accesses-requires
-accesses-requires c κs = record { limits = limited-limits _ _ _ (sym (c .before .before .before .before .before .before .before .before .before .before .before .before .before .before .before .before .before .validate-limits .ensures) ∙ c .before .before .before .before .before .before .before .before .before .before .before .before .before .before .before .shape .given .1); room = search needs }
+accesses-requires c κs = record { limits = limited-limits _ _ _ (sym (c .before .before .before .before .before .before .before .before .before .before .before .before .before .before .before .before .before .before .before .before .before .validate-limits .ensures) ∙ c .before .before .before .before .before .before .before .before .before .before .before .before .before .before .before .before .before .before .before .shape .given .1); room = search needs }
 
 sweep-requires : tie.Need-sweep-requires
-sweep-requires c κs = record { limits = limited-limits _ _ _ (sym (c .before .before .before .before .before .before .before .before .before .before .before .before .before .before .before .before .before .before .before .before .before .validate-limits .ensures) ∙ c .before .before .before .before .before .before .before .before .before .before .before .before .before .before .before .before .before .before .before .shape .given .1); room = search needs }
+sweep-requires c κs = record { limits = limited-limits _ _ _ (sym (c .before .before .before .before .before .before .before .before .before .before .before .before .before .before .before .before .before .before .before .before .before .before .before .before .before .validate-limits .ensures) ∙ c .before .before .before .before .before .before .before .before .before .before .before .before .before .before .before .before .before .before .before .before .before .before .before .shape .given .1); room = search needs }
 
 same-length : tie.Need-same-length
 same-length c = search needs
@@ -77,6 +80,7 @@ run-spec =
     show-requires-2
     number-requires-2
     show-answer-requires
+    corners-requires
     accesses-requires
     sweep-requires
     same-length

@@ -1,6 +1,6 @@
 -- `distributor_accesses::sweep` meets its contract. Assumes nothing.
-use borrow.Author.Needs.{needs}
 use Prim.Native.Nat.{_≤_, _-_}
+use borrow.Author.Needs.{needs}
 use Rattle.distributor_accesses.proofs.sweep.Statement.{statement}
 use Rattle.distributor_accesses.proofs.sweep.Tie as tie
 

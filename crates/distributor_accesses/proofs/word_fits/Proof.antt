@@ -1,7 +1,7 @@
 -- `distributor_accesses::word_fits` meets its contract. Assumes nothing.
 use mathlib.Core.Bool.{true, false, false≢true}
-use borrow.Author.Tests.{ltb-true}
 use borrow.Author.Needs.{needs}
+use borrow.Author.Tests.{ltb-true}
 use Rattle.distributor_accesses.proofs.word_fits.Statement.{statement}
 use Rattle.distributor_accesses.proofs.word_fits.Tie as tie
 

@@ -1,9 +1,9 @@
 -- `distributor_accesses::write` meets its contract. Assumes nothing.
-use Rattle.distributor_accesses.proofs.Fits.{bytes-few}
-use Rattle.register.specs.Frame.{bytes}
 use Prim.Native.Nat.{_≤_}
 use native.Mathlib.Omega.{arith}
 use borrow.Author.Needs.{needs}
+use Rattle.register.specs.Frame.{bytes}
+use Rattle.distributor_accesses.proofs.Fits.{bytes-few}
 use Rattle.distributor_accesses.proofs.write.Statement.{statement}
 use Rattle.distributor_accesses.proofs.write.Tie as tie
 

@@ -1,8 +1,8 @@
 -- `sgi::clear_sgi_sources` meets its contract. Assumes nothing.
-use Rattle.sgi.specs.Sgi.{clearSources}
-use borrow.Author.Tests.{eq-eqb, ne-eqb}
 use mathlib.Core.Path.{_∙_}
 use borrow.Author.Needs.{needs}
+use borrow.Author.Tests.{eq-eqb, ne-eqb}
+use Rattle.sgi.specs.Sgi.{clearSources}
 use Rattle.sgi.proofs.clear_sgi_sources.Statement.{statement}
 use Rattle.sgi.proofs.clear_sgi_sources.Tie as tie
 

@@ -1,7 +1,7 @@
 -- `sgi::pend_sgi` meets its contract. Assumes nothing.
-use Rattle.sgi.specs.Sgi.{pendSgi}
 use mathlib.Core.Path.{_∙_}
 use borrow.Author.Needs.{needs}
+use Rattle.sgi.specs.Sgi.{pendSgi}
 use Rattle.sgi.proofs.pend_sgi.Statement.{statement}
 use Rattle.sgi.proofs.pend_sgi.Tie as tie
 

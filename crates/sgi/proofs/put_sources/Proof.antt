@@ -1,7 +1,7 @@
-use Rattle.state.proofs.Accessors.{sources-same}
 -- `sgi::put_sources` meets its contract. Assumes nothing.
 use mathlib.Core.Path.{_∙_}
 use borrow.Author.Needs.{needs}
+use Rattle.state.proofs.Accessors.{sources-same}
 use Rattle.sgi.proofs.put_sources.Statement.{statement}
 use Rattle.sgi.proofs.put_sources.Tie as tie
 

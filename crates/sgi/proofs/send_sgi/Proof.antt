@@ -1,12 +1,12 @@
 -- `sgi::send_sgi` meets its contract. Assumes nothing.
-use Prim.Native.Nat.{ℕ, _≤_, _-_}
 use mathlib.Core.Path.{_≡_, ap, _∙_}
+use Prim.Native.Nat.{ℕ, _≤_, _-_}
+use native.Mathlib.Numerals.{add-one}
+use native.Mathlib.Omega.{arith}
+use lib.ListN.{length}
 use borrow.Author.Needs.{needs}
 use Rattle.sgi.specs.Sgi.{sentTo, sendSgi}
 use Rattle.state.specs.Loop.{upTo}
-use native.Mathlib.Numerals.{add-one}
-use lib.ListN.{length}
-use native.Mathlib.Omega.{arith}
 use Rattle.sgi.proofs.send_sgi.Statement.{statement}
 use Rattle.sgi.proofs.send_sgi.Tie as tie
 

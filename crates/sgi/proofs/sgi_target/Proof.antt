@@ -1,7 +1,7 @@
 -- `sgi::sgi_target` meets its contract. Assumes nothing.
-use Rattle.sgi.specs.Sgi.{sgiTarget}
-use borrow.Author.Tests.{ne-eqb}
 use borrow.Author.Needs.{needs}
+use borrow.Author.Tests.{ne-eqb}
+use Rattle.sgi.specs.Sgi.{sgiTarget}
 use Rattle.sgi.proofs.sgi_target.Statement.{statement}
 use Rattle.sgi.proofs.sgi_target.Tie as tie
 

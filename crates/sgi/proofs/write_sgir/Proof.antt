@@ -1,7 +1,7 @@
 -- `sgi::write_sgir` meets its contract. Assumes nothing.
-use Rattle.sgi.specs.Sgi.{writeSgir}
 use mathlib.Core.Path.{_∙_}
 use borrow.Author.Needs.{needs}
+use Rattle.sgi.specs.Sgi.{writeSgir}
 use Rattle.sgi.proofs.write_sgir.Statement.{statement}
 use Rattle.sgi.proofs.write_sgir.Tie as tie
 

@@ -1,9 +1,9 @@
 -- `targets::existing_bits` meets its contract. Assumes nothing.
 use native.Mathlib.Nat.{lt-of-le-of-lt, mod-le}
-use lib.Pow.{pow-pos}
-use Rattle.word.proofs.Gathered.{one-shifted}
 use native.Mathlib.Omega.{arith}
+use lib.Pow.{pow-pos}
 use borrow.Author.Needs.{needs}
+use Rattle.word.proofs.Gathered.{one-shifted}
 use Rattle.targets.proofs.existing_bits.Statement.{statement}
 use Rattle.targets.proofs.existing_bits.Tie as tie
 

@@ -1,6 +1,6 @@
 -- `targets::own_byte` meets its contract. Assumes nothing.
-use borrow.Author.Tests.{lt-ltb, le-ltb}
 use borrow.Author.Needs.{needs}
+use borrow.Author.Tests.{lt-ltb, le-ltb}
 use Rattle.targets.proofs.own_byte.Statement.{statement}
 use Rattle.targets.proofs.own_byte.Tie as tie
 

@@ -1,8 +1,8 @@
 -- `targets::read_target` meets its contract. Assumes nothing.
-use Rattle.targets.specs.Targets.{readTarget}
-use borrow.Author.Tests.{lt-ltb, le-ltb}
 use mathlib.Core.Path.{_∙_}
 use borrow.Author.Needs.{needs}
+use borrow.Author.Tests.{lt-ltb, le-ltb}
+use Rattle.targets.specs.Targets.{readTarget}
 use Rattle.targets.proofs.read_target.Statement.{statement}
 use Rattle.targets.proofs.read_target.Tie as tie
 

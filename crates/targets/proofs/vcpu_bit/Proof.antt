@@ -1,7 +1,7 @@
 -- `targets::vcpu_bit` meets its contract. Assumes nothing.
-use Rattle.word.proofs.Gathered.{one-shifted}
 use native.Mathlib.Omega.{arith}
 use borrow.Author.Needs.{needs}
+use Rattle.word.proofs.Gathered.{one-shifted}
 use Rattle.targets.proofs.vcpu_bit.Statement.{statement}
 use Rattle.targets.proofs.vcpu_bit.Tie as tie
 

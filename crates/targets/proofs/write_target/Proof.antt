@@ -1,8 +1,8 @@
 -- `targets::write_target` meets its contract. Assumes nothing.
-use Rattle.targets.specs.Targets.{writeTarget}
-use borrow.Author.Tests.{lt-ltb, le-ltb, le-leb, lt-leb}
 use mathlib.Core.Path.{_∙_}
 use borrow.Author.Needs.{needs}
+use borrow.Author.Tests.{lt-ltb, le-ltb, le-leb, lt-leb}
+use Rattle.targets.specs.Targets.{writeTarget}
 use Rattle.targets.proofs.write_target.Statement.{statement}
 use Rattle.targets.proofs.write_target.Tie as tie
 

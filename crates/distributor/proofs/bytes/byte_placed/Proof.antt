@@ -1,7 +1,7 @@
 -- `distributor::bytes::byte_placed` meets its contract. Assumes nothing.
-use lib.Pow.{shl-exact}
 use Prim.Native.Nat.{_*_}
 use native.Mathlib.Omega.{arith}
+use lib.Pow.{shl-exact}
 use borrow.Author.Needs.{needs}
 use Rattle.distributor.proofs.bytes.byte_placed.Statement.{statement}
 use Rattle.distributor.proofs.bytes.byte_placed.Tie as tie

@@ -1,12 +1,12 @@
 -- `distributor::bytes::read_bytes` meets its contract. Assumes nothing.
+use mathlib.Core.Path.{_≡_}
+use Prim.Native.Nat.{_+_, _≤_, _-_}
+use native.Mathlib.Numerals.{add-one}
+use native.Mathlib.Omega.{arith}
 use borrow.Author.Needs.{needs}
-use Rattle.distributor.proofs.ByteLaws.{bytes-fit}
 use Rattle.distributor.specs.Bytes.{readByte, readBytes}
 use Rattle.word.specs.Fields.{gathered}
-use native.Mathlib.Numerals.{add-one}
-use Prim.Native.Nat.{_+_, _≤_, _-_}
-use mathlib.Core.Path.{_≡_}
-use native.Mathlib.Omega.{arith}
+use Rattle.distributor.proofs.ByteLaws.{bytes-fit}
 use Rattle.distributor.proofs.bytes.read_bytes.Statement.{statement}
 use Rattle.distributor.proofs.bytes.read_bytes.Tie as tie
 

@@ -1,7 +1,7 @@
 -- `distributor::bytes::read_priority` meets its contract. Assumes nothing.
-use Rattle.distributor.specs.Bytes.{readPriority}
-use borrow.Author.Tests.{lt-ltb, le-ltb}
 use borrow.Author.Needs.{needs}
+use borrow.Author.Tests.{lt-ltb, le-ltb}
+use Rattle.distributor.specs.Bytes.{readPriority}
 use Rattle.distributor.proofs.bytes.read_priority.Statement.{statement}
 use Rattle.distributor.proofs.bytes.read_priority.Tie as tie
 

@@ -1,13 +1,13 @@
 -- `distributor::bytes::write_bytes` meets its contract. Assumes nothing.
+use mathlib.Core.Path.{_≡_, _∙_}
+use Prim.Native.Nat.{_+_, _≤_, _-_}
+use native.Mathlib.Numerals.{add-one}
+use native.Mathlib.Omega.{arith}
+use lib.ListN.{length}
 use borrow.Author.Needs.{needs}
 use Rattle.distributor.specs.Bytes.{writeByte, writeBytes}
-use Rattle.word.specs.Fields.{fieldAt}
 use Rattle.state.specs.Loop.{upTo}
-use native.Mathlib.Numerals.{add-one}
-use lib.ListN.{length}
-use Prim.Native.Nat.{_+_, _≤_, _-_}
-use mathlib.Core.Path.{_≡_, _∙_}
-use native.Mathlib.Omega.{arith}
+use Rattle.word.specs.Fields.{fieldAt}
 use Rattle.distributor.proofs.bytes.write_bytes.Statement.{statement}
 use Rattle.distributor.proofs.bytes.write_bytes.Tie as tie
 

@@ -1,8 +1,8 @@
 -- `distributor::bytes::write_priority` meets its contract. Assumes nothing.
-use Rattle.distributor.specs.Bytes.{writePriority}
-use borrow.Author.Tests.{lt-ltb, le-ltb}
 use mathlib.Core.Path.{_∙_}
 use borrow.Author.Needs.{needs}
+use borrow.Author.Tests.{lt-ltb, le-ltb}
+use Rattle.distributor.specs.Bytes.{writePriority}
 use Rattle.distributor.proofs.bytes.write_priority.Statement.{statement}
 use Rattle.distributor.proofs.bytes.write_priority.Tie as tie
 

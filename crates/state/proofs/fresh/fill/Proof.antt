@@ -1,13 +1,13 @@
 -- `state::fresh::fill` meets its contract. Assumes nothing.
-use borrow.Author.Needs.{needs}
-use Rattle.state.specs.Layout.{size}
-use native.Mathlib.Omega.{arith}
-use Rattle.state.specs.Fresh.{startedAt, fresh}
-use Rattle.state.specs.Loop.{upTo}
-use lib.ListN.{length}
-use native.Mathlib.Numerals.{add-one}
-use Prim.Native.Nat.{_≤_, _-_}
 use mathlib.Core.Path.{_≡_}
+use Prim.Native.Nat.{_≤_, _-_}
+use native.Mathlib.Numerals.{add-one}
+use native.Mathlib.Omega.{arith}
+use lib.ListN.{length}
+use borrow.Author.Needs.{needs}
+use Rattle.state.specs.Fresh.{startedAt, fresh}
+use Rattle.state.specs.Layout.{size}
+use Rattle.state.specs.Loop.{upTo}
 use Rattle.state.proofs.fresh.fill.Statement.{statement}
 use Rattle.state.proofs.fresh.fill.Tie as tie
 

@@ -1,7 +1,7 @@
 -- `state::fresh::header_word` meets its contract. Assumes nothing.
-use Rattle.state.specs.Layout.{headerSlot}
-use borrow.Author.Tests.{eq-eqb, ne-eqb}
 use borrow.Author.Needs.{needs}
+use borrow.Author.Tests.{eq-eqb, ne-eqb}
+use Rattle.state.specs.Layout.{headerSlot}
 use Rattle.state.proofs.fresh.header_word.Statement.{statement}
 use Rattle.state.proofs.fresh.header_word.Tie as tie
 

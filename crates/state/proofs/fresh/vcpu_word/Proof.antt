@@ -1,15 +1,14 @@
 -- `state::fresh::vcpu_word` meets its contract. Assumes nothing.
-use Rattle.state.specs.Fresh.{startOf}
-use Rattle.state.specs.declared.layout.Shape.{Shape}
-use lib.Dec.{ltb}
-use Prim.Native.Nat.{ℕ, _-_}
 use mathlib.Core.Bool.{Bool, true, false, cond}
 use mathlib.Core.Path.{_≡_, refl, sym}
+use Prim.Native.Nat.{ℕ, _-_}
 use native.Mathlib.Omega.{arith}
-use Rattle.state.specs.Layout.{vcpuSlot, Interface, Sources, interfaceOf}
-use Rattle.state.specs.Layout.{vcpuSlot}
-use borrow.Author.Tests.{lt-ltb, le-ltb}
+use lib.Dec.{ltb}
 use borrow.Author.Needs.{needs}
+use borrow.Author.Tests.{lt-ltb, le-ltb}
+use Rattle.state.specs.Fresh.{startOf}
+use Rattle.state.specs.Layout.{vcpuSlot, Interface, Sources, interfaceOf}
+use Rattle.state.specs.declared.layout.Shape.{Shape}
 use Rattle.state.proofs.fresh.vcpu_word.Statement.{statement}
 use Rattle.state.proofs.fresh.vcpu_word.Tie as tie
 

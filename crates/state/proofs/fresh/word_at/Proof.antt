@@ -1,9 +1,9 @@
 -- `state::fresh::word_at` meets its contract. Assumes nothing.
 use mathlib.Core.Path.{_≡_}
 use native.Mathlib.Omega.{arith}
-use Rattle.state.specs.Layout.{slotAt, spiStart, stackStart}
-use borrow.Author.Tests.{lt-ltb, le-ltb}
 use borrow.Author.Needs.{needs}
+use borrow.Author.Tests.{lt-ltb, le-ltb}
+use Rattle.state.specs.Layout.{slotAt, spiStart, stackStart}
 use Rattle.state.proofs.fresh.word_at.Statement.{statement}
 use Rattle.state.proofs.fresh.word_at.Tie as tie
 

@@ -1,14 +1,14 @@
 -- `state::lent::depths_fit` meets its contract. Assumes nothing.
-use borrow.Author.Needs.{needs}
-use Rattle.state.proofs.Tests.{every-fails}
-use Rattle.state.specs.Lent.{depthFits}
-use Rattle.state.specs.Loop.{everyBelow}
-use borrow.Author.Tests.{le-leb, lt-leb}
-use native.Mathlib.Omega.{arith}
-use native.Mathlib.Numerals.{add-one}
-use Prim.Native.Nat.{_≤_, _-_}
 use mathlib.Core.Bool.{true}
 use mathlib.Core.Path.{_≡_, sym}
+use Prim.Native.Nat.{_≤_, _-_}
+use native.Mathlib.Numerals.{add-one}
+use native.Mathlib.Omega.{arith}
+use borrow.Author.Needs.{needs}
+use borrow.Author.Tests.{le-leb, lt-leb}
+use Rattle.state.specs.Lent.{depthFits}
+use Rattle.state.specs.Loop.{everyBelow}
+use Rattle.state.proofs.Tests.{every-fails}
 use Rattle.state.proofs.lent.depths_fit.Statement.{statement}
 use Rattle.state.proofs.lent.depths_fit.Tie as tie
 

@@ -1,9 +1,9 @@
 -- `state::lent::stored_shape` meets its contract. Assumes nothing.
-use Rattle.state.proofs.Validated.{no-limit}
-use lib.ListN.{getD, List·getD-eq-default}
 use mathlib.Core.Path.{_≡_}
 use native.Mathlib.Omega.{arith}
+use lib.ListN.{getD, List·getD-eq-default}
 use borrow.Author.Needs.{needs}
+use Rattle.state.proofs.Validated.{no-limit}
 use Rattle.state.proofs.lent.stored_shape.Statement.{statement}
 use Rattle.state.proofs.lent.stored_shape.Tie as tie
 

@@ -1,7 +1,7 @@
 -- `state::lent::validate_limits` meets its contract. Assumes nothing.
-use Rattle.state.specs.Lent.{limited}
-use borrow.Author.Tests.{le-leb, lt-leb}
 use borrow.Author.Needs.{needs}
+use borrow.Author.Tests.{le-leb, lt-leb}
+use Rattle.state.specs.Lent.{limited}
 use Rattle.state.proofs.lent.validate_limits.Statement.{statement}
 use Rattle.state.proofs.lent.validate_limits.Tie as tie
 

@@ -1,15 +1,13 @@
 -- `state::lent::validate_state` meets its contract. Assumes nothing.
-use Rattle.state.proofs.Validated.{validated-within}
-use Rattle.state.specs.declared.lent.Limited.the-variants.{Within}
-use Rattle.state.specs.Lent.{storedShape}
-use Rattle.state.specs.Layout.{size}
-use lib.ListN.{length}
-use Rattle.state.proofs.Validated.{limited-limits}
-use Rattle.state.specs.Lent.{validated}
 use mathlib.Core.Path.{_≡_, sym, _∙_}
-use borrow.Author.Tests.{le-leb, lt-leb}
 use native.Mathlib.Omega.{arith}
+use lib.ListN.{length}
 use borrow.Author.Needs.{needs}
+use borrow.Author.Tests.{le-leb, lt-leb}
+use Rattle.state.specs.Layout.{size}
+use Rattle.state.specs.Lent.{storedShape, validated}
+use Rattle.state.specs.declared.lent.Limited.the-variants.{Within}
+use Rattle.state.proofs.Validated.{validated-within, limited-limits}
 use Rattle.state.proofs.lent.validate_state.Statement.{statement}
 use Rattle.state.proofs.lent.validate_state.Tie as tie
 
