@@ -16,7 +16,8 @@ use Rattle.state.specs.Loop.{upTo}
 use Rattle.state.specs.Words.{recordSlot}
 use Rattle.state.proofs.Accessors.{record-run}
 use Rattle.word.specs.Fields.{fieldAt, gathered}
-use Rattle.bits.specs.Bits.{isConfig, fieldBits, perWord, readNumber, readBits, writeNumber, writeBits, WordAt, Existing, fieldIn, writeRecord, writeIn}
+use Rattle.bits.specs.Bits.{isConfig, fieldBits, perWord, readNumber, readBits, writeNumber, writeBits, WordAt}
+use Rattle.bits.specs.Run.{Existing, fieldIn, writeRecord, writeIn}
 use Rattle.word.proofs.Gathered.{gathered-idle, gathered-same, gathered-fits}
 use Rattle.state.proofs.Steps.{up-idle, up-same}
 use Rattle.bits.proofs.BitLaws.{field-below}

@@ -1,18 +1,16 @@
 -- The bit registers: document 01, "Distributor places"; IHI 0048, 4.3.4 to 4.3.10 and 4.3.13. Each word has a field for each of its
 -- numbers, of one bit, in ICFGR of two.
 use mathlib.Core.Bool.{Bool, true, false, not, cond, _&&_}
-use mathlib.Core.Path.{_≡_}
 use mathlib.Core.List.{List}
 use Prim.Native.Nat.{ℕ, _+_, _*_, _/_, _≤_, _<_}
 use lib.Dec.{eqb, ltb}
-use lib.ListN.{length, getD, set}
 use Rattle.interrupt.specs.Types.{isSgi, isLevel}
 use Rattle.interrupt.specs.Record.{setEnabled, setPending, setActive, cancelInflight, setTrigger, setOwner}
 use Rattle.interrupt.specs.declared.record.InterruptRecord.{InterruptRecord}
 use Rattle.interrupt.specs.declared.record.Owner.the-variants.{Nobody}
 use Rattle.register.specs.declared.ranges.BitRegister.{BitRegister}
 use Rattle.register.specs.declared.ranges.BitRegister.the-variants.{Igroupr, Isenabler, Icenabler, Ispendr, Icpendr, Isactiver, Icactiver, Icfgr}
-use Rattle.word.specs.Word.{bitOf, triggerOf, recordOf, wordOf}
+use Rattle.word.specs.Word.{bitOf, triggerOf}
 use Rattle.state.specs.declared.layout.Shape.{Shape}
 use Rattle.state.specs.Layout.{Room}
 use Rattle.state.specs.Loop.{upTo}
@@ -95,30 +93,3 @@ pub record WordAt (shape : Shape) (register : BitRegister) (v first : ℕ) (s : 
   pub state : Room shape s
   pub together : first < 32 → first + perWord register ≤ 32
   pub banked : first < 32 → v < shape .count
-
--- r of the k numbers from `first` up are below the limit
-pub record Existing (limit first k r : ℕ) : Type 0 where
-  pub few : r ≤ k
-  pub below : first + r ≤ limit
-  pub past : r < k → limit ≤ first + r
-
--- r is the place of field i, with room for the field in 32 bits
-pub record FieldShift (register : BitRegister) (i r : ℕ) : Type 0 where
-  pub at : r ≡ fieldBits register * i
-  pub room : r + fieldBits register ≤ 32
-  pub below : r < 32
-
--- the records of a word stand side by side from the place `base` up: their fields, and what a write does to them
-abbrev pub fieldIn : BitRegister → ℕ → List ℕ → ℕ → ℕ
-fieldIn register base s i = readField register (recordOf (getD s (base + i) 0))
-
-unfoldable pub writeRecord : BitRegister → ℕ → ℕ → ℕ → List ℕ → List ℕ
-writeRecord register at n x s = cond (acts register n x) (set s at (wordOf (act register x (recordOf (getD s at 0))))) s
-
-abbrev pub writeIn : BitRegister → ℕ → ℕ → ℕ → ℕ → List ℕ → List ℕ
-writeIn register base first value i s = writeRecord register (base + i) (first + i) (fieldAt (fieldBits register) i value) s
-
-pub record RunAt (register : BitRegister) (base there : ℕ) (s : List ℕ) : Type 0 where
-  pub in-word : there ≤ perWord register
-  pub short : there ≤ 32
-  pub inside : base + there ≤ length s

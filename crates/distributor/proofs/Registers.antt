@@ -1,6 +1,6 @@
 -- What an access to a byte register reads and does, number by number, for all four registers and the three widths at once. Assumes nothing.
 use mathlib.Core.Path.{_≡_}
-use mathlib.Core.Bool.{_&&_}
+use mathlib.Core.Bool.{true, false, _&&_}
 use mathlib.Core.List.{List}
 use Prim.Native.Nat.{ℕ, _+_, _≤_, _<_}
 use native.Mathlib.Omega.{arith}
@@ -19,7 +19,7 @@ use Rattle.state.proofs.Numbers.{Of, if-local, changed-local, run-written, run-
 use Rattle.state.proofs.Steps.{Agree, Local}
 use Rattle.state.proofs.Tests.{left-true, right-true}
 use Rattle.targets.specs.Targets.{existingBits, writeTarget}
-use Rattle.sgi.proofs.Rings.{clear-local, set-local}
+use Rattle.sgi.proofs.Rings.{write-local}
 use Rattle.distributor.specs.Bytes.{writePriority, readByte, writeByte, readBytes, writeBytes, ByteThere, BytesAt}
 use Rattle.distributor.proofs.ByteLaws.{byte-below}
 
@@ -42,8 +42,8 @@ byte-local shape Itargetsr v n byte l there =
     let h : 32 ≤ n = leb-true 32 n (left-true (leb 32 n) (ltb n (shape .limit)) e) in
     let b : n < shape .limit = ltb-true n (shape .limit) (right-true (leb 32 n) (ltb n (shape .limit)) e) in
     changed-local shape v n (λ r. setCpuTargetMask r (existingBits shape byte)) (record-exists shape v n (record { numbered = b; banked = λ p. absurd (omega arith) })))
-byte-local shape Cpendsgir v n byte l there = clear-local shape v n l there byte
-byte-local shape Spendsgir v n byte l there = set-local shape v n l there byte
+byte-local shape Cpendsgir v n byte l there = write-local shape v n l there false byte
+byte-local shape Spendsgir v n byte l there = write-local shape v n l there true byte
 
 module _ (shape : Shape) (register : ByteRegister) (v first count value : ℕ) (s : List ℕ) (at : BytesAt shape register v first count s) where
   step : (i : ℕ) → i < count → Local shape (Of v (first + i)) (writeByte shape register v (first + i) (fieldAt 8 i value))

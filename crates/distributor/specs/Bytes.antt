@@ -1,6 +1,6 @@
 -- The byte registers: document 01, "Distributor places": "widths 1, 2, 4", a byte for each number. IHI 0048, 4.3.11, 4.3.12, 4.3.16 and
 -- 4.3.17.
-use mathlib.Core.Bool.{cond}
+use mathlib.Core.Bool.{true, false, cond}
 use mathlib.Core.List.{List}
 use Prim.Native.Nat.{ℕ, _+_, _≤_, _<_}
 use lib.Dec.{ltb}
@@ -12,7 +12,7 @@ use Rattle.state.specs.Layout.{Room}
 use Rattle.state.specs.Loop.{upTo}
 use Rattle.state.specs.Words.{recordAt, changed, sourcesAt}
 use Rattle.word.specs.Fields.{fieldAt, gathered}
-use Rattle.sgi.specs.Sgi.{clearSources, setSources}
+use Rattle.sgi.specs.Sgi.{writeSources}
 use Rattle.targets.specs.Targets.{readTarget, writeTarget}
 
 -- "A priority byte keeps all 8 bits"; numbers not below the limit read 0 and ignore writes
@@ -32,8 +32,8 @@ readByte shape Spendsgir v s n = sourcesAt shape v n s
 abbrev pub writeByte : Shape → ByteRegister → ℕ → ℕ → ℕ → List ℕ → List ℕ
 writeByte shape Ipriorityr v n byte s = writePriority shape v n byte s
 writeByte shape Itargetsr v n byte s = writeTarget shape v n byte s
-writeByte shape Cpendsgir v n byte s = clearSources shape v n byte s
-writeByte shape Spendsgir v n byte s = setSources shape v n byte s
+writeByte shape Cpendsgir v n byte s = writeSources shape v n false byte s
+writeByte shape Spendsgir v n byte s = writeSources shape v n true byte s
 
 -- `count` bytes from the number `first` up
 unfoldable pub readBytes : Shape → ByteRegister → ℕ → ℕ → ℕ → List ℕ → ℕ

@@ -8,8 +8,7 @@ use interrupt::GicVcpuId;
 use interrupt::IntId;
 use interrupt::Priority;
 use register::ByteRegister;
-use sgi::clear_sgi_sources;
-use sgi::set_sgi_sources;
+use sgi::write_sgi_sources;
 use state::Shape;
 use state::words::put_record;
 use state::words::record;
@@ -70,8 +69,8 @@ fn write_byte(
     match register {
         ByteRegister::Ipriorityr => write_priority(words, shape, vcpu, intid, byte),
         ByteRegister::Itargetsr => write_target(words, shape, vcpu, intid, byte),
-        ByteRegister::Cpendsgir => clear_sgi_sources(words, shape, vcpu, intid, byte),
-        ByteRegister::Spendsgir => set_sgi_sources(words, shape, vcpu, intid, byte),
+        ByteRegister::Cpendsgir => write_sgi_sources(words, shape, vcpu, intid, byte, false),
+        ByteRegister::Spendsgir => write_sgi_sources(words, shape, vcpu, intid, byte, true),
     }
 }
 

@@ -1,12 +1,12 @@
 -- What the registers of SGI sources and SGIR do, slot by slot: each step touches one SGI at one vCPU, its source set and its record alone; a
 -- ring leaves the sender's source bit set, with every other, and the SGI pending. Assumes nothing.
 use mathlib.Core.Path.{_≡_, refl, sym, ap, _∙_}
-use mathlib.Core.Bool.{true, not}
+use mathlib.Core.Bool.{Bool, true, not}
 use mathlib.Core.List.{List}
 use mathlib.Core.Logic.{inl, inr}
-use Prim.Native.Nat.{ℕ, _-_, _%_, _^_, _<_}
+use Prim.Native.Nat.{ℕ, _%_, _^_, _<_}
 use native.Mathlib.Omega.{arith}
-use lib.Bits.{bitAnd, bitOr, or-lt}
+use lib.Bits.{bitOr, or-lt}
 use lib.Dec.{eqb}
 use lib.Pow.{pow-lt}
 use Rattle.interrupt.specs.Record.{setPending}
@@ -20,7 +20,7 @@ use Rattle.state.proofs.Accessors.{put-room, put-other, record-exists, record-s
 use Rattle.state.proofs.Numbers.{Of, one-vcpu, then-local, if-local, unless-local, put-local, changed-local, sources-local}
 use Rattle.state.proofs.Steps.{Agree, Local, steps-own, steps-others}
 use Rattle.sgi.specs.declared.SgiTarget.{SgiTarget}
-use Rattle.sgi.specs.Sgi.{pendBySources, clearSources, setSources, pendSgi, includes, sentTo, sendSgi}
+use Rattle.sgi.specs.Sgi.{pendBySources, mergedSources, writeSources, pendSgi, includes, sentTo, sendSgi}
 
 pub sgi-exists : (shape : Shape) (v n : ℕ) → Limits shape → Exists shape (Sources v n) → Exists shape (recordSlot v n)
 sgi-exists shape v n l e = record-exists shape v n (record { numbered = omega arith; banked = λ b. e .0 })
@@ -34,17 +34,11 @@ module _ (shape : Shape) (v n : ℕ) (l : Limits shape) (e : Exists shape (Sourc
       put-local shape (Of v n) (recordSlot v n) (λ s. wordOf (setPending (recordAt shape v n s) (not (eqb (sourcesAt shape v n s) 0)))) (sgi-exists shape v n l e) (inl refl)
       (λ s r a. simp (same-sources s r a, a .agree (recordSlot v n) (sgi-exists shape v n l e) (inl refl)))
 
-  pub clear-local : (byte : ℕ) → Local shape (Of v n) (clearSources shape v n byte)
-  unfolding clearSources
-  clear-local byte =
+  pub write-local : (on : Bool) (byte : ℕ) → Local shape (Of v n) (writeSources shape v n on byte)
+  unfolding writeSources
+  write-local on byte =
       unless-local (eqb byte 0)
-      (then-local (sources-local shape v n (λ s. bitAnd (sourcesAt shape v n s) (255 - byte)) e (λ s r a. ap (λ (x : ℕ). bitAnd x (255 - byte)) (same-sources s r a))) pend-local)
-
-  pub set-local : (byte : ℕ) → Local shape (Of v n) (setSources shape v n byte)
-  unfolding setSources
-  set-local byte =
-      unless-local (eqb byte 0)
-      (then-local (sources-local shape v n (λ s. bitOr (sourcesAt shape v n s) byte) e (λ s r a. ap (λ (x : ℕ). bitOr x byte) (same-sources s r a))) pend-local)
+      (then-local (sources-local shape v n (λ s. mergedSources on (sourcesAt shape v n s) byte) e (λ s r a. ap (λ (x : ℕ). mergedSources on x byte) (same-sources s r a))) pend-local)
 
   pub ring-local : (source : ℕ) → Local shape (Of v n) (pendSgi shape v source n)
   unfolding pendSgi

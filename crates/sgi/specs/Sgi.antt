@@ -18,13 +18,14 @@ pendBySources shape v n s = changed shape v n (λ r. setPending r (not (eqb (sou
 abbrev pub sourced : Shape → ℕ → ℕ → ℕ → List ℕ → List ℕ
 sourced shape v n sources s = pendBySources shape v n (withSources shape v n sources s)
 
--- CPENDSGIR: "writing 1 bits clears .. them"; "a zero byte changes nothing"
-unfoldable pub clearSources : Shape → ℕ → ℕ → ℕ → List ℕ → List ℕ
-clearSources shape v n byte s = cond (eqb byte 0) s (sourced shape v n (bitAnd (sourcesAt shape v n s) (255 - byte)) s)
+-- "writing 1 bits clears or sets them, also for sources that do not exist": CPENDSGIR clears, SPENDSGIR sets
+abbrev pub mergedSources : Bool → ℕ → ℕ → ℕ
+mergedSources true sources byte = bitOr sources byte
+mergedSources false sources byte = bitAnd sources (255 - byte)
 
--- SPENDSGIR: "or sets them, also for sources that do not exist"
-unfoldable pub setSources : Shape → ℕ → ℕ → ℕ → List ℕ → List ℕ
-setSources shape v n byte s = cond (eqb byte 0) s (sourced shape v n (bitOr (sourcesAt shape v n s) byte) s)
+-- "a zero byte changes nothing"
+unfoldable pub writeSources : Shape → ℕ → ℕ → Bool → ℕ → List ℕ → List ℕ
+writeSources shape v n on byte s = cond (eqb byte 0) s (sourced shape v n (mergedSources on (sourcesAt shape v n s) byte) s)
 
 -- SGIR: "Each target gains the sender's source bit and its SGI is set pending"
 unfoldable pub pendSgi : Shape → ℕ → ℕ → ℕ → List ℕ → List ℕ

@@ -4,7 +4,7 @@ ghost use Prim.Native.Nat.{_<_};
 ghost use Rattle.state.specs.Layout.{Room, Sources};
 ghost use Rattle.interrupt.specs.Record.{setPending};
 ghost use Rattle.state.specs.Words.{Holds, changed};
-ghost use Rattle.sgi.specs.Sgi.{sourced, clearSources, setSources, pendSgi, sgiTarget, includes, sentTo, sendSgi, writeSgir};
+ghost use Rattle.sgi.specs.Sgi.{sourced, mergedSources, writeSources, pendSgi, sgiTarget, includes, sentTo, sendSgi, writeSgir};
 use interrupt::GicVcpuId;
 use interrupt::IntId;
 use state::Shape;
@@ -38,26 +38,29 @@ fn put_sources(words: &mut [u32], shape: Shape, vcpu: GicVcpuId, sgi: IntId, sou
     set_pending(words, shape, vcpu, sgi, sources != 0);
 }
 
-pub fn clear_sgi_sources(words: &mut [u32], shape: Shape, vcpu: GicVcpuId, sgi: IntId, mask: u8)
-    requires { ⌜ Holds shape (Sources (vcpu .0) (sgi .0)) (now words) ⌝ }
-    ensures { λ r. ⌜ now (words .exit) ≡ clearSources shape (vcpu .0) (sgi .0) mask (now (words .entry)) ⌝ }
+fn merged_sources(sources: u8, mask: u8, set: bool) -> u8
+    ensures { λ r. ⌜ r ≡ mergedSources «set» sources mask ⌝ }
 {
-    if mask == 0 {
-        return;
-    }
-    let left = sgi_sources(words, shape, vcpu, sgi) & !mask;
-    put_sources(words, shape, vcpu, sgi, left);
+    if set { sources | mask } else { sources & !mask }
 }
 
-pub fn set_sgi_sources(words: &mut [u32], shape: Shape, vcpu: GicVcpuId, sgi: IntId, mask: u8)
+// A byte of SPENDSGIR, where `set`, or of CPENDSGIR.
+pub fn write_sgi_sources(
+    words: &mut [u32],
+    shape: Shape,
+    vcpu: GicVcpuId,
+    sgi: IntId,
+    mask: u8,
+    set: bool,
+)
     requires { ⌜ Holds shape (Sources (vcpu .0) (sgi .0)) (now words) ⌝ }
-    ensures { λ r. ⌜ now (words .exit) ≡ setSources shape (vcpu .0) (sgi .0) mask (now (words .entry)) ⌝ }
+    ensures { λ r. ⌜ now (words .exit) ≡ writeSources shape (vcpu .0) (sgi .0) «set» mask (now (words .entry)) ⌝ }
 {
     if mask == 0 {
         return;
     }
-    let joined = sgi_sources(words, shape, vcpu, sgi) | mask;
-    put_sources(words, shape, vcpu, sgi, joined);
+    let sources = merged_sources(sgi_sources(words, shape, vcpu, sgi), mask, set);
+    put_sources(words, shape, vcpu, sgi, sources);
 }
 
 pub fn pend_sgi(words: &mut [u32], shape: Shape, vcpu: GicVcpuId, source: GicVcpuId, sgi: IntId)

@@ -45,7 +45,7 @@ impl Shape {
         requires { ⌜ Limits self ⌝ }
         ensures { λ r. ⌜ r ≡ stackStart self ⌝ }
     {
-        3 + 52 * self.count + (self.limit - 32) as usize
+        self.spi_start() + (self.limit - 32) as usize
     }
 
     // How many words a state takes.
@@ -53,7 +53,7 @@ impl Shape {
         requires { ⌜ Limits self ⌝ }
         ensures { λ r. ⌜ r ≡ size self ⌝ }
     {
-        3 + 52 * self.count + (self.limit - 32) as usize + 255 * self.count
+        self.stack_start() + 255 * self.count
     }
 }
 

@@ -2,7 +2,8 @@
 use mathlib.Core.Path.{sym, _∙_}
 use Prim.Native.Nat.{_+_, _≤_}
 use borrow.Author.Needs.{needs}
-use Rattle.bits.specs.Bits.{perWord, WordAt, Existing}
+use Rattle.bits.specs.Bits.{perWord, WordAt}
+use Rattle.bits.specs.Run.{Existing}
 use Rattle.state.specs.Layout.{size}
 use Rattle.bits.proofs.Runs.{run-inside, run-reads, none-reads}
 use Rattle.bits.proofs.read_bits.Statement.{statement}

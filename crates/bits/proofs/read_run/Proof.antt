@@ -5,7 +5,8 @@ use native.Mathlib.Nat.{lt-of-lt-of-le}
 use native.Mathlib.Numerals.{add-one}
 use native.Mathlib.Omega.{arith}
 use borrow.Author.Needs.{needs}
-use Rattle.bits.specs.Bits.{fieldBits, fieldIn}
+use Rattle.bits.specs.Bits.{fieldBits}
+use Rattle.bits.specs.Run.{fieldIn}
 use Rattle.word.specs.Fields.{gathered}
 use Rattle.bits.proofs.BitLaws.{field-below}
 use Rattle.bits.proofs.Runs.{run-fits}

@@ -1,6 +1,6 @@
 -- `bits::write_record` meets its contract. Assumes nothing.
 use borrow.Author.Needs.{needs}
-use Rattle.bits.specs.Bits.{writeRecord}
+use Rattle.bits.specs.Run.{writeRecord}
 use Rattle.bits.proofs.write_record.Statement.{statement}
 use Rattle.bits.proofs.write_record.Tie as tie
 

@@ -6,7 +6,7 @@ use native.Mathlib.Numerals.{add-one}
 use native.Mathlib.Omega.{arith}
 use lib.ListN.{length}
 use borrow.Author.Needs.{needs}
-use Rattle.bits.specs.Bits.{writeIn}
+use Rattle.bits.specs.Run.{writeIn}
 use Rattle.state.specs.Loop.{upTo}
 use Rattle.bits.proofs.write_run.Statement.{statement}
 use Rattle.bits.proofs.write_run.Tie as tie

@@ -18,14 +18,14 @@ write-target-requires c κs = search needs
 enum-told-3 : tie.Need-enum-told-3
 enum-told-3 c = search needs
 
-clear-sgi-sources-requires : tie.Need-clear-sgi-sources-requires
-clear-sgi-sources-requires c κs = let p = rw (c .before .enum-told3 .given .1) at (c .before .before .before .before .pre) in record { state = p .state; exists = p .there }
+write-sgi-sources-requires : tie.Need-write-sgi-sources-requires
+write-sgi-sources-requires c κs = let p = rw (c .before .enum-told3 .given .1) at (c .before .before .before .before .pre) in record { state = p .state; exists = p .there }
 
 enum-told-4 : tie.Need-enum-told-4
 enum-told-4 c = search needs
 
-set-sgi-sources-requires : tie.Need-set-sgi-sources-requires
-set-sgi-sources-requires c κs = let p = rw (c .before .enum-told4 .given .1) at (c .before .before .before .before .pre) in record { state = p .state; exists = p .there }
+write-sgi-sources-requires-2 : tie.Need-write-sgi-sources-requires-2
+write-sgi-sources-requires-2 c κs = let p = rw (c .before .enum-told4 .given .1) at (c .before .before .before .before .pre) in record { state = p .state; exists = p .there }
 
 same-length : tie.Need-same-length
 same-length c = search needs
@@ -43,13 +43,13 @@ same-length-3 : tie.Need-same-length-3
 same-length-3 c = search needs
 
 returns-3 : tie.Need-returns-3
-returns-3 c = simp (c .before .before .before .before .enum-told3 .given .1) (c .before .before .clear-sgi-sources .ensures)
+returns-3 c = simp (c .before .before .before .before .enum-told3 .given .1) (c .before .before .write-sgi-sources .ensures)
 
 same-length-4 : tie.Need-same-length-4
 same-length-4 c = search needs
 
 returns-4 : tie.Need-returns-4
-returns-4 c = simp (c .before .before .before .before .enum-told4 .given .1) (c .before .before .set-sgi-sources .ensures)
+returns-4 c = simp (c .before .before .before .before .enum-told4 .given .1) (c .before .before .write-sgi-sources2 .ensures)
 
 pub write-byte-spec : {M : Type 1} → statement M
 write-byte-spec =
@@ -60,9 +60,9 @@ write-byte-spec =
     enum-told-2
     write-target-requires
     enum-told-3
-    clear-sgi-sources-requires
+    write-sgi-sources-requires
     enum-told-4
-    set-sgi-sources-requires
+    write-sgi-sources-requires-2
     same-length
     returns
     same-length-2
