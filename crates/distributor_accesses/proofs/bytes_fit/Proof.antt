@@ -1,11 +1,8 @@
 -- `distributor_accesses::bytes_fit` meets its contract. Assumes nothing.
 use mathlib.Core.Bool.{true, false, false≢true}
-use Prim.Native.Nat.{_+_, _≤_, _<_}
-use native.Mathlib.Omega.{arith}
-use lib.Dec.{leb, ltb}
 use borrow.Author.Needs.{needs}
-use borrow.Author.Tests.{ltb-true, leb-true}
-use Rattle.state.proofs.Tests.{left-true, right-true}
+use borrow.Author.Tests.{ltb-true}
+use Rattle.distributor_accesses.proofs.Fits.{source-there}
 use Rattle.distributor_accesses.proofs.bytes_fit.Statement.{statement}
 use Rattle.distributor_accesses.proofs.bytes_fit.Tie as tie
 
@@ -37,20 +34,10 @@ returns-4 : tie.Need-returns-4
 returns-4 c = λ e. rw (c .enum-told2 .given .1) (record { short = c .before .before .before .before .before .before .before .if1 .left; numbered = c .before .before .before .before .before .if2 .left; there = λ i h. tt })
 
 returns-5 : tie.Need-returns-5
-returns-5 c =
-    λ e.
-    let a = c .before .before .before .before .before .before .before .before .args in
-    let b : a .vcpu .0 < a .shape .count = ltb-true (a .vcpu .0) (a .shape .count) (left-true (ltb (a .vcpu .0) (a .shape .count)) (leb (a .first .0 + a .count) 16) e) in
-    let k : a .first .0 + a .count ≤ 16 = leb-true (a .first .0 + a .count) 16 (right-true (ltb (a .vcpu .0) (a .shape .count)) (leb (a .first .0 + a .count) 16) e) in
-    rw (c .enum-told3 .given .1) (record { short = c .before .before .before .before .before .before .before .if1 .left; numbered = c .before .before .before .before .before .if2 .left; there = λ i h. (b, omega arith) })
+returns-5 c = λ e. rw (c .enum-told3 .given .1) (record { short = c .before .before .before .before .before .before .before .if1 .left; numbered = c .before .before .before .before .before .if2 .left; there = source-there (c .before .before .before .before .before .before .before .before .args .vcpu .0) (c .before .before .before .before .before .before .before .before .args .shape .count) (c .before .before .before .before .before .before .before .before .args .first .0) (c .before .before .before .before .before .before .before .before .args .count) e })
 
 returns-6 : tie.Need-returns-6
-returns-6 c =
-    λ e.
-    let a = c .before .before .before .before .before .before .before .before .args in
-    let b : a .vcpu .0 < a .shape .count = ltb-true (a .vcpu .0) (a .shape .count) (left-true (ltb (a .vcpu .0) (a .shape .count)) (leb (a .first .0 + a .count) 16) e) in
-    let k : a .first .0 + a .count ≤ 16 = leb-true (a .first .0 + a .count) 16 (right-true (ltb (a .vcpu .0) (a .shape .count)) (leb (a .first .0 + a .count) 16) e) in
-    rw (c .enum-told4 .given .1) (record { short = c .before .before .before .before .before .before .before .if1 .left; numbered = c .before .before .before .before .before .if2 .left; there = λ i h. (b, omega arith) })
+returns-6 c = λ e. rw (c .enum-told4 .given .1) (record { short = c .before .before .before .before .before .before .before .if1 .left; numbered = c .before .before .before .before .before .if2 .left; there = source-there (c .before .before .before .before .before .before .before .before .args .vcpu .0) (c .before .before .before .before .before .before .before .before .args .shape .count) (c .before .before .before .before .before .before .before .before .args .first .0) (c .before .before .before .before .before .before .before .before .args .count) e })
 
 pub bytes-fit-spec : {M : Type 1} → statement M
 bytes-fit-spec =
