@@ -1,21 +1,24 @@
 -- What the registers of SGI sources and SGIR do, slot by slot: each step touches one SGI at one vCPU, its source set and its record alone; a
--- ring leaves the sender's source bit set, with every other, and the SGI pending. Assumes nothing.
+-- ring leaves the sender's source bit set, with every other, and the SGI pending; a byte of CPENDSGIR or SPENDSGIR leaves it pending exactly
+-- if a source is then set. Assumes nothing.
 use mathlib.Core.Path.{_≡_, refl, sym, ap, _∙_}
-use mathlib.Core.Bool.{Bool, true, not}
+use mathlib.Core.Bool.{Bool, true, false, not}
 use mathlib.Core.List.{List}
 use mathlib.Core.Logic.{inl, inr}
-use Prim.Native.Nat.{ℕ, _%_, _^_, _<_}
+use Prim.Native.Nat.{ℕ, _-_, _%_, _^_, _<_}
+use native.Mathlib.Nat.{lt-of-le-of-lt}
 use native.Mathlib.Omega.{arith}
-use lib.Bits.{bitOr, or-lt}
+use lib.Bits.{and-le-l, bitOr, or-lt}
 use lib.Dec.{eqb}
 use lib.Pow.{pow-lt}
+use borrow.Author.Tests.{ne-eqb}
 use Rattle.interrupt.specs.Record.{setPending}
 use Rattle.interrupt.specs.declared.record.InterruptRecord.{InterruptRecord}
 use Rattle.word.specs.Word.{recordOf, wordOf, InRange}
 use Rattle.word.proofs.RecordWord.{decoded-in-range}
 use Rattle.state.specs.declared.layout.Shape.{Shape}
 use Rattle.state.specs.Layout.{Slot, Sources, Exists, Limits, Room}
-use Rattle.state.specs.Words.{wordAt, recordSlot, recordAt, sourcesAt, withSources}
+use Rattle.state.specs.Words.{wordAt, recordSlot, recordAt, changed, sourcesAt, withSources}
 use Rattle.state.proofs.Accessors.{put-room, put-other, record-exists, record-same, sources-same, record-no-sources}
 use Rattle.state.proofs.Numbers.{Of, one-vcpu, then-local, if-local, unless-local, put-local, changed-local, sources-local}
 use Rattle.state.proofs.Steps.{Agree, Local, steps-own, steps-others}
@@ -61,23 +64,57 @@ module _ (shape : Shape) (source n : ℕ) (target : SgiTarget) (s : List ℕ) (h
   unfolding sendSgi
   sgi-others t e away = steps-others shape (λ u. Of u n) (sentTo shape target source n) (shape .count) s sent t e away
 
--- a ring: the sender's bit joins the others, and the SGI is pending
-module _ (shape : Shape) (v source n : ℕ) (s : List ℕ) (h : Room shape s) (e : Exists shape (Sources v n)) (b : source < 8) where
-  pub ring-sources : sourcesAt shape v n (pendSgi shape v source n s) ≡ bitOr (sourcesAt shape v n s) (2 ^ source)
-  unfolding pendSgi
-  ring-sources =
-      let after = withSources shape v n (bitOr (sourcesAt shape v n s) (2 ^ source)) s in
-      ap (λ (w : ℕ). w % 256) (put-other shape after (Sources v n) (recordSlot v n) (wordOf (setPending (recordAt shape v n after) true)) e (sgi-exists shape v n (h .limits) e) (λ p. record-no-sources v n v n (sym p)))
-      ∙ sources-same shape s v n (bitOr (sourcesAt shape v n s) (2 ^ source)) h e (or-lt 8 (sourcesAt shape v n s) (2 ^ source) (omega arith) (pow-lt b))
+-- a source set and then its record: both are as written
+module _ (shape : Shape) (v n : ℕ) (s : List ℕ) (h : Room shape s) (e : Exists shape (Sources v n)) where
+  module _ (x : ℕ) (b : x < 256) (f : InterruptRecord → InterruptRecord) (keeps : (r : InterruptRecord) → InRange r → InRange (f r)) where
+    both-sources : sourcesAt shape v n (changed shape v n f (withSources shape v n x s)) ≡ x
+    both-sources =
+        let after = withSources shape v n x s in
+        ap (λ (w : ℕ). w % 256) (put-other shape after (Sources v n) (recordSlot v n) (wordOf (f (recordAt shape v n after))) e (sgi-exists shape v n (h .limits) e) (λ p. record-no-sources v n v n (sym p)))
+        ∙ sources-same shape s v n x h e b
 
-  pub ring-pends : recordAt shape v n (pendSgi shape v source n s) ≡ setPending (recordAt shape v n s) true
-  unfolding pendSgi
-  ring-pends =
-      let x = bitOr (sourcesAt shape v n s) (2 ^ source) in
-      let after = withSources shape v n x s in
-      let r = recordAt shape v n after in
-      record-same shape after v n (setPending r true) (put-room shape s (Sources v n) x h) (sgi-exists shape v n (h .limits) e) (pended r (decoded-in-range (wordAt shape (recordSlot v n) after)))
-      ∙ ap (λ (w : ℕ). setPending (recordOf w) true) (put-other shape s (recordSlot v n) (Sources v n) x (sgi-exists shape v n (h .limits) e) e (record-no-sources v n v n))
-    where
-      pended : (r : InterruptRecord) → InRange r → InRange (setPending r true)
-      pended r i = unfold setPending in record { priority-byte = i .priority-byte; mask-byte = i .mask-byte; owner-byte = i .owner-byte }
+    both-record : recordAt shape v n (changed shape v n f (withSources shape v n x s)) ≡ f (recordAt shape v n s)
+    both-record =
+        let after = withSources shape v n x s in
+        let r = recordAt shape v n after in
+        record-same shape after v n (f r) (put-room shape s (Sources v n) x h) (sgi-exists shape v n (h .limits) e) (keeps r (decoded-in-range (wordAt shape (recordSlot v n) after)))
+        ∙ ap (λ (w : ℕ). f (recordOf w)) (put-other shape s (recordSlot v n) (Sources v n) x (sgi-exists shape v n (h .limits) e) e (record-no-sources v n v n))
+
+  pended : (p : Bool) (r : InterruptRecord) → InRange r → InRange (setPending r p)
+  unfolding setPending
+  pended p r i = record { priority-byte = i .priority-byte; mask-byte = i .mask-byte; owner-byte = i .owner-byte }
+
+  -- a ring: the sender's bit joins the others, and the SGI is pending
+  module _ (source : ℕ) (b : source < 8) where
+    joined-below : bitOr (sourcesAt shape v n s) (2 ^ source) < 256
+    joined-below = or-lt 8 (sourcesAt shape v n s) (2 ^ source) (omega arith) (pow-lt b)
+
+    pub ring-sources : sourcesAt shape v n (pendSgi shape v source n s) ≡ bitOr (sourcesAt shape v n s) (2 ^ source)
+    unfolding pendSgi
+    ring-sources = both-sources (bitOr (sourcesAt shape v n s) (2 ^ source)) joined-below (λ r. setPending r true) (pended true)
+
+    pub ring-pends : recordAt shape v n (pendSgi shape v source n s) ≡ setPending (recordAt shape v n s) true
+    unfolding pendSgi
+    ring-pends = both-record (bitOr (sourcesAt shape v n s) (2 ^ source)) joined-below (λ r. setPending r true) (pended true)
+
+  -- a byte of CPENDSGIR or SPENDSGIR with a 1 bit: the sources are merged, and the SGI is pending exactly if one is left
+  module _ (on : Bool) (byte : ℕ) (b : byte < 256) (some : byte ≡ 0 → ⊥) where
+    merged-below : (q : Bool) → mergedSources q (sourcesAt shape v n s) byte < 256
+    merged-below true = or-lt 8 (sourcesAt shape v n s) byte (omega arith) b
+    merged-below false = lt-of-le-of-lt (and-le-l (sourcesAt shape v n s) (255 - byte)) (omega arith)
+
+    pub written-sources : sourcesAt shape v n (writeSources shape v n on byte s) ≡ mergedSources on (sourcesAt shape v n s) byte
+    unfolding writeSources
+    written-sources =
+        let x = mergedSources on (sourcesAt shape v n s) byte in
+        simp (ne-eqb byte 0 some)
+        (both-sources x (merged-below on) (λ r. setPending r (not (eqb (sourcesAt shape v n (withSources shape v n x s)) 0))) (pended (not (eqb (sourcesAt shape v n (withSources shape v n x s)) 0))))
+
+    pub written-pends : recordAt shape v n (writeSources shape v n on byte s)
+        ≡ setPending (recordAt shape v n s) (not (eqb (mergedSources on (sourcesAt shape v n s) byte) 0))
+    unfolding writeSources
+    written-pends =
+        let x = mergedSources on (sourcesAt shape v n s) byte in
+        simp (ne-eqb byte 0 some)
+        (both-record x (merged-below on) (λ r. setPending r (not (eqb (sourcesAt shape v n (withSources shape v n x s)) 0))) (pended (not (eqb (sourcesAt shape v n (withSources shape v n x s)) 0)))
+        ∙ ap (λ (q : ℕ). setPending (recordAt shape v n s) (not (eqb q 0))) (sources-same shape s v n x h e (merged-below on)))
