@@ -1,5 +1,5 @@
 -- `bits::write_bits` meets its contract. Assumes nothing.
-use mathlib.Core.Path.{sym, _∙_}
+use mathlib.Core.Path.{sym}
 use Prim.Native.Nat.{_+_, _≤_}
 use borrow.Author.Needs.{needs}
 use Rattle.bits.specs.Bits.{perWord, WordAt}
@@ -37,7 +37,7 @@ returns-2 c =
     let a = c .before .before .before .before .before .before .before .before .before .before .before .args in
     let p : WordAt (a .shape) (a .register) (a .vcpu .0) (a .first .0) (a .words .now) = c .before .before .before .before .before .before .before .before .before .before .before .pre in
     let e : Existing (a .shape .limit) (a .first .0) (perWord (a .register)) (c .before .before .before .before .before .existing .result) = rw (c .before .before .before .before .before .before .per-word .ensures .0) at (c .before .before .before .before .before .existing .ensures) in
-    c .before .before .write-run .ensures ∙ rw (c .before .before .before .before .record-place .ensures .at) (run-writes (a .shape) (a .register) (a .vcpu .0) (a .first .0) _ (a .words .now) p e (a .value))
+    rw (c .before .before .write-run .ensures, c .before .before .before .before .record-place .ensures .at) (run-writes (a .shape) (a .register) (a .vcpu .0) (a .first .0) _ (a .words .now) p e (a .value))
 
 pub write-bits-spec : {M : Type 1} → statement M
 write-bits-spec =

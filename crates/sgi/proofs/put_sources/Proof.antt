@@ -1,5 +1,4 @@
 -- `sgi::put_sources` meets its contract. Assumes nothing.
-use mathlib.Core.Path.{_∙_}
 use borrow.Author.Needs.{needs}
 use Rattle.state.proofs.Accessors.{sources-same}
 use Rattle.sgi.proofs.put_sources.Statement.{statement}
@@ -18,8 +17,7 @@ returns : tie.Need-returns
 returns c =
     let a = c .before .before .before .before .before .before .before .before .before .args in
     let p = c .before .before .before .before .before .before .before .before .before .pre in
-    c .before .before .set-pending .ensures
-    ∙ simp (c .before .before .before .before .before .before .put-sgi-sources .ensures, sources-same (a .shape) (a .words .now) (a .vcpu .0) (a .sgi .0) (a .sources) (p .state) (p .exists) (c .before .before .before .before .before .before .before .before .before .fits .sources .fits))
+    rw (c .before .before .set-pending .ensures) (simp (c .before .before .before .before .before .before .put-sgi-sources .ensures, sources-same (a .shape) (a .words .now) (a .vcpu .0) (a .sgi .0) (a .sources) (p .state) (p .exists) (c .before .before .before .before .before .before .before .before .before .fits .sources .fits)))
 
 pub put-sources-spec : {M : Type 1} → statement M
 put-sources-spec =
