@@ -1,12 +1,16 @@
--- Where the slots of a state stand: inside its size, and no two at one place. Assumes nothing.
+-- How large a state is, and where its slots stand: inside its size, and no two at one place. Assumes nothing.
 use mathlib.Core.Path.{_≡_, refl, sym, ap, _∙_}
-use Prim.Native.Nat.{ℕ, _+_, _*_, _-_, _/_, _%_, _<_}
+use Prim.Native.Nat.{ℕ, _+_, _*_, _-_, _/_, _%_, _≤_, _<_}
 use native.Mathlib.Omega.{arith}
 use borrow.Author.Tests.{lt-ltb, le-ltb}
 use Rattle.state.specs.declared.layout.Shape.{Shape}
 use Rattle.state.specs.declared.layout.InterfaceValue.{InterfaceValue}
 use Rattle.state.specs.declared.layout.InterfaceValue.the-variants.{Control, PriorityMask, BinaryPoint, Depth}
 use Rattle.state.specs.Layout.{Slot, Count, Limit, DistributorControl, Interface, Sources, Private, Spi, Stack, interfaceNumber, spiStart, stackStart, size, place, Exists, Limits, interfaceOf, headerSlot, vcpuSlot, slotAt}
+
+-- the largest state, of 8 vCPUs and limit 1020, has 3,447 words, less than the 8,192 that are 32 KiB
+pub size-bound : (shape : Shape) → Limits shape → size shape ≤ 3447
+size-bound shape l = omega arith
 
 interface-below : (k : InterfaceValue) → interfaceNumber k < 4
 interface-below Control = omega arith
