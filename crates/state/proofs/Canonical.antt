@@ -1,8 +1,8 @@
--- A state as we write it stays one, whatever is written by the accessors: equal states stay equal words. Assumes nothing.
-use mathlib.Core.Path.{_≡_, sym, _∙_, subst}
+-- A state as we write it stays one under every accessor's write; at a stack, as long as past the depth there is only 0. Assumes nothing.
+use mathlib.Core.Path.{_≡_, refl, sym, _∙_, subst}
 use mathlib.Core.Bool.{Bool, true, false, cond}
 use mathlib.Core.List.{List}
-use Prim.Native.Nat.{ℕ, _≤_, _<_}
+use Prim.Native.Nat.{ℕ, _^_, _≤_, _<_}
 use native.Mathlib.Omega.{arith}
 use lib.Dec.{ltb}
 use Rattle.interrupt.specs.declared.record.InterruptRecord.{InterruptRecord}
@@ -13,8 +13,8 @@ use Rattle.state.specs.declared.layout.InterfaceValue.{InterfaceValue}
 use Rattle.state.specs.declared.layout.InterfaceValue.the-variants.{Control, PriorityMask, BinaryPoint, Depth}
 use Rattle.state.specs.declared.words.Entry.{Entry}
 use Rattle.state.specs.Layout.{Slot, Count, Limit, DistributorControl, Interface, Sources, Private, Spi, Stack, Exists, Room}
-use Rattle.state.specs.Words.{wordAt, put, recordSlot, withRecord, withSources, kept, withInterface, withEnabledAt, entryWord, withEntry, CanonicalWord, Canonical}
-use Rattle.state.proofs.Accessors.{put-other, put-written, kept-kept}
+use Rattle.state.specs.Words.{wordAt, put, recordSlot, withRecord, withSources, kept, withInterface, withEnabledAt, entryWord, withEntry, withoutEntry, CanonicalWord, Canonical}
+use Rattle.state.proofs.Accessors.{put-same, put-other, same-or-other, put-written, kept-kept}
 
 -- a slot that says nothing of what lies on a stack
 abbrev pub OffStack : Slot → Type 0
@@ -71,17 +71,39 @@ module _ (shape : Shape) (s : List ℕ) (h : Room shape s) (c : Canonical shape 
       below true = omega arith
       below false = omega arith
 
-  -- an entry in use
-  pub entry-canonical : (v i : ℕ) (e : Entry) → Exists shape (Stack v i) → i < wordAt shape (Interface v Depth) s → e .priority .0 < 256 → Canonical shape (withEntry shape v i e s)
-  entry-canonical v i e x used b = record {
-    written = put-written shape s (Stack v i) (entryWord e) h x (omega arith) (c .written);
+  -- an entry of a stack: past the depth only 0 is written
+  pub stack-canonical : (v i w : ℕ) → Exists shape (Stack v i) → w < 2 ^ 18 → (wordAt shape (Interface v Depth) s ≤ i → w ≡ 0)
+      → Canonical shape (put shape (Stack v i) w s)
+  stack-canonical v i w x b dead = record {
+    written = put-written shape s (Stack v i) w h x b (c .written);
     cleared = λ u j bu d l.
-        put-other shape s (Stack u j) (Stack v i) (entryWord e) (bu, l) x (λ p. above u j p (rw (depth-stays u bu) at d))
-        ∙ c .cleared u j bu (rw (depth-stays u bu) at d) l;
+        let old : wordAt shape (Interface u Depth) s ≤ j = rw (depth-stays u bu) at d in
+        same-or-other shape s (Stack u j) (Stack v i) (bu, l) x
+        (λ p. subst (λ (t : Slot). wordAt shape t (put shape (Stack v i) w s) ≡ 0) (sym p) (put-same shape s (Stack v i) w h x ∙ dead (below u j p old)))
+        (λ apart. put-other shape s (Stack u j) (Stack v i) w (bu, l) x apart ∙ c .cleared u j bu old l);
   }
     where
-      depth-stays : (u : ℕ) → u < shape .count → wordAt shape (Interface u Depth) (put shape (Stack v i) (entryWord e) s) ≡ wordAt shape (Interface u Depth) s
-      depth-stays u bu = put-other shape s (Interface u Depth) (Stack v i) (entryWord e) bu x (λ p. let z : _≡_ {A = ℕ} 0 1 = cc in omega arith)
+      depth-stays : (u : ℕ) → u < shape .count → wordAt shape (Interface u Depth) (put shape (Stack v i) w s) ≡ wordAt shape (Interface u Depth) s
+      depth-stays u bu = put-other shape s (Interface u Depth) (Stack v i) w bu x (λ p. let z : _≡_ {A = ℕ} 0 1 = cc in omega arith)
 
-      above : (u j : ℕ) → Stack u j ≡ Stack v i → wordAt shape (Interface u Depth) s ≤ j → ⊥
-      above u j p d = let q : j ≡ i = cc in let r : u ≡ v = cc in let d2 = rw r at d in omega arith
+      below : (u j : ℕ) → Stack u j ≡ Stack v i → wordAt shape (Interface u Depth) s ≤ j → wordAt shape (Interface v Depth) s ≤ i
+      below u j p d = let q : j ≡ i = cc in let r : u ≡ v = cc in rw (r, q) at d
+
+  pub entry-canonical : (v i : ℕ) (e : Entry) → Exists shape (Stack v i) → i < wordAt shape (Interface v Depth) s → e .priority .0 < 256
+      → Canonical shape (withEntry shape v i e s)
+  entry-canonical v i e x used b = stack-canonical v i (entryWord e) x (omega arith) (λ d. absurd (omega arith))
+
+  pub cleared-canonical : (v i : ℕ) → Exists shape (Stack v i) → Canonical shape (withoutEntry shape v i s)
+  cleared-canonical v i x = stack-canonical v i 0 x (omega arith) (λ d. refl)
+
+  -- a depth below which nothing but 0 is left behind
+  pub depth-canonical : (v d : ℕ) → v < shape .count → ((i : ℕ) → d ≤ i → i < 255 → wordAt shape (Stack v i) s ≡ 0) → Canonical shape (withInterface shape v Depth d s)
+  depth-canonical v d b zeros = record {
+    written = put-written shape s (Interface v Depth) d h b refl (c .written);
+    cleared = λ u j bu deep l. stack-stays u j bu l ∙ same-or-other shape s (Interface u Depth) (Interface v Depth) bu b
+        (λ p. let r : u ≡ v = cc in rw r (zeros j (rw (r, put-same shape s (Interface v Depth) d h b) at deep) l))
+        (λ apart. c .cleared u j bu (rw (put-other shape s (Interface u Depth) (Interface v Depth) d bu b apart) at deep) l);
+  }
+    where
+      stack-stays : (u j : ℕ) → u < shape .count → j < 255 → wordAt shape (Stack u j) (put shape (Interface v Depth) d s) ≡ wordAt shape (Stack u j) s
+      stack-stays u j bu l = put-other shape s (Stack u j) (Interface v Depth) d (bu, l) b (λ p. let z : _≡_ {A = ℕ} 0 1 = cc in omega arith)
