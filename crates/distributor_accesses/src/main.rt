@@ -254,15 +254,16 @@ fn choose_width(kind: u64, x: u64) -> AccessWidth {
     }
 }
 
-// A place of the Distributor: half of them bit registers, which have the most rules.
+// A place of the Distributor, with the first numbers or the last that there can be.
 fn choose_offset(kind: u64, x: u64) -> u64 {
     match kind {
         0 => 3840,
         1 => x % 4 * 4,
         2 => 3072 + x % 64 * 4,
-        3 | 4 => 128 + x % 7 * 128 + x / 8 % 3 * 4,
-        5 => 1024 + x % 48,
-        6 => 2048 + x % 48,
+        3 => 128 + x % 7 * 128 + x / 8 % 3 * 4,
+        4 => 244 + x % 7 * 128 + x / 8 % 3 * 4,
+        5 => 1024 + x % 48 + x / 64 % 2 * 972,
+        6 => 2048 + x % 48 + x / 64 % 2 * 972,
         _ => 3856 + x % 32,
     }
 }

@@ -9,9 +9,10 @@ use native.Mathlib.Nat.{mod-eq-of-lt}
 use lib.Dec.{eqb, ltb}
 use lib.ListN.{length, drop, length-set}
 use lib.Seq.{getD-set-same, getD-set-other, set-set, set-comm, drop-set-lt}
-use borrow.Author.Tests.{lt-ltb, le-ltb, ltb-true, ltb-false, eqb-true, eqb-false}
+use borrow.Author.Tests.{lt-ltb, le-ltb, ltb-true, ltb-false}
 use Rattle.interrupt.specs.declared.record.InterruptRecord.{InterruptRecord}
 use Rattle.word.specs.Word.{bitOf, wordOf, InRange}
+use Rattle.word.proofs.Cases.{same-or}
 use Rattle.word.proofs.RecordWord.{decode-encode}
 use Rattle.state.specs.declared.layout.Shape.{Shape}
 use Rattle.state.specs.declared.layout.InterfaceValue.{InterfaceValue}
@@ -69,11 +70,8 @@ module _ (shape : Shape) (s : List ℕ) where
 
   -- a slot is the one that was put, or another
   pub same-or-other {ℓ} : {X : Type ℓ} (t u : Slot) → Exists shape t → Exists shape u → (t ≡ u → X) → ((t ≡ u → ⊥) → X) → X
-  same-or-other {X = X} t u et eu same other = go (eqb (place shape t) (place shape u)) refl
-    where
-      go : (b : Bool) → eqb (place shape t) (place shape u) ≡ b → X
-      go true e = same (place-apart shape t u et eu (eqb-true (place shape t) (place shape u) e))
-      go false e = other (λ p. eqb-false (place shape t) (place shape u) e (ap (place shape) p))
+  same-or-other t u et eu same other =
+      same-or (place shape t) (place shape u) (λ p. same (place-apart shape t u et eu p)) (λ d. other (λ p. d (ap (place shape) p)))
 
   -- words as we write them stay so
   pub put-written : (u : Slot) (w : ℕ) → Room shape s → Exists shape u → CanonicalWord u w

@@ -7,7 +7,7 @@ use native.Mathlib.Omega.{arith}
 use lib.Dec.{ltb}
 use Rattle.interrupt.specs.declared.record.InterruptRecord.{InterruptRecord}
 use Rattle.word.specs.Word.{bitOf, wordOf, InRange}
-use Rattle.word.proofs.RecordWord.{encoded-canonical}
+use Rattle.word.proofs.RecordWord.{bit-fits, encoded-canonical}
 use Rattle.state.specs.declared.layout.Shape.{Shape}
 use Rattle.state.specs.declared.layout.InterfaceValue.{InterfaceValue}
 use Rattle.state.specs.declared.layout.InterfaceValue.the-variants.{Control, PriorityMask, BinaryPoint, Depth}
@@ -65,11 +65,7 @@ module _ (shape : Shape) (s : List ℕ) (h : Room shape s) (c : Canonical shape 
   interface-canonical v k x e off = put-canonical (Interface v k) (kept k x) e off (kept-kept k x)
 
   pub enabled-canonical : (on : Bool) → Canonical shape (withEnabledAt shape on s)
-  enabled-canonical on = put-canonical DistributorControl (bitOf on) tt tt (below on)
-    where
-      below : (b : Bool) → bitOf b < 2
-      below true = omega arith
-      below false = omega arith
+  enabled-canonical on = put-canonical DistributorControl (bitOf on) tt tt (bit-fits on)
 
   -- an entry of a stack: past the depth only 0 is written
   pub stack-canonical : (v i w : ℕ) → Exists shape (Stack v i) → w < 2 ^ 18 → (wordAt shape (Interface v Depth) s ≤ i → w ≡ 0)

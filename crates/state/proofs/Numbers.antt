@@ -6,10 +6,10 @@ use mathlib.Core.List.{List}
 use mathlib.Core.Logic.{_⊎_, inl, inr}
 use Prim.Native.Nat.{ℕ, _+_, _<_}
 use native.Mathlib.Omega.{arith}
-use lib.Dec.{eqb}
-use borrow.Author.Tests.{lt-ltb, eqb-true, eqb-false}
+use borrow.Author.Tests.{lt-ltb}
 use Rattle.interrupt.specs.declared.record.InterruptRecord.{InterruptRecord}
 use Rattle.word.specs.Word.{recordOf, wordOf}
+use Rattle.word.proofs.Cases.{same-or}
 use Rattle.state.specs.declared.layout.Shape.{Shape}
 use Rattle.state.specs.Layout.{Slot, Sources, Private, Exists, Room}
 use Rattle.state.specs.Loop.{upTo}
@@ -79,11 +79,7 @@ sources-local shape v n x e same = put-local shape (Of v n) (Sources v n) x e (i
 -- steps on the numbers from `first` up: each does to its number what it alone would do, and no other slot changes
 module _ (shape : Shape) (v first n : ℕ) (f : ℕ → List ℕ → List ℕ) (s : List ℕ) (steps : (i : ℕ) → i < n → Local shape (Of v (first + i)) (f i)) where
   run-apart : (i j : ℕ) (t : Slot) → Of v (first + i) t → Of v (first + j) t → i ≡ j
-  run-apart i j t a b = go (eqb i j) refl
-    where
-      go : (q : Bool) → eqb i j ≡ q → i ≡ j
-      go true e = eqb-true i j e
-      go false e = let d : i ≡ j → ⊥ = eqb-false i j e in absurd (one-number v (first + i) (first + j) t a b (λ p. d (omega arith)))
+  run-apart i j t a b = same-or i j (λ e. e) (λ d. absurd (one-number v (first + i) (first + j) t a b (λ p. d (omega arith))))
 
   pub run-written : Room shape s → (i : ℕ) → i < n → Agree shape (Of v (first + i)) (upTo f n s) (f i s)
   run-written h i b = steps-own shape (λ j. Of v (first + j)) f run-apart n s steps h i b

@@ -1,17 +1,15 @@
 -- What setup's fill leaves: every slot as it starts, whatever stood there before; a state that passes the test and is as we write it;
 -- words past it as they were. Assumes nothing.
 use mathlib.Core.Path.{_≡_, refl, sym, ap, _∙_}
-use mathlib.Core.Bool.{Bool, true, false}
 use mathlib.Core.List.{List}
 use Prim.Native.Nat.{ℕ, zero, suc, _≤_, _<_}
 use native.Mathlib.Nat.{not-suc-le-zero}
 use native.Mathlib.Omega.{arith}
-use lib.Dec.{eqb}
-use lib.ListN.{length, getD, set, drop, length-set}
+use lib.ListN.{length, getD, drop, length-set}
 use lib.Seq.{getD-set-same, getD-set-other, drop-set-lt}
-use borrow.Author.Tests.{eqb-true, eqb-false}
 use Rattle.interrupt.specs.Record.{newRecord, startingRecord}
 use Rattle.word.specs.Word.{InRange}
+use Rattle.word.proofs.Cases.{last-or}
 use Rattle.word.proofs.RecordWord.{encoded-canonical}
 use Rattle.state.specs.declared.layout.Shape.{Shape}
 use Rattle.state.specs.declared.layout.InterfaceValue.{InterfaceValue}
@@ -32,16 +30,12 @@ module _ (shape : Shape) (s : List ℕ) where
   started-at : (n k : ℕ) → n ≤ length s → k < n → getD (upTo (startedAt shape) n s) k 0 ≡ startOf shape (slotAt shape k)
   unfolding upTo
   started-at zero k h b = absurd (not-suc-le-zero b)
-  started-at (suc n) k h b = last-or (eqb k n) refl (λ below. started-at n k (omega arith) below)
-    where
-      last-or : (t : Bool) → eqb k n ≡ t → (k < n → getD (upTo (startedAt shape) n s) k 0 ≡ startOf shape (slotAt shape k))
-          → getD (set (upTo (startedAt shape) n s) n (startOf shape (slotAt shape n))) k 0 ≡ startOf shape (slotAt shape k)
-      last-or true p before =
-          let e : k ≡ n = eqb-true k n p in
-          rw e (getD-set-same (upTo (startedAt shape) n s) n (startOf shape (slotAt shape n)) 0 (rw (started-length n) h))
-      last-or false p before =
-          let d : k ≡ n → ⊥ = eqb-false k n p in
-          getD-set-other (upTo (startedAt shape) n s) n k (startOf shape (slotAt shape n)) 0 d ∙ before (omega arith)
+  started-at (suc n) k h b =
+      last-or k n b
+      (λ e. rw e (getD-set-same (upTo (startedAt shape) n s) n (startOf shape (slotAt shape n)) 0 (rw (started-length n) h)))
+      (λ c.
+      getD-set-other (upTo (startedAt shape) n s) n k (startOf shape (slotAt shape n)) 0 (λ e. omega arith)
+      ∙ started-at n k (omega arith) c)
 
   started-past : (n m : ℕ) → n ≤ m → drop m (upTo (startedAt shape) n s) ≡ drop m s
   unfolding upTo

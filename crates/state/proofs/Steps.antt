@@ -1,13 +1,11 @@
 -- Steps taken one after another, each with slots of its own: what a step's own slots hold at the end is what that step alone makes of the
 -- start, and slots that no step has stay. So a register's write can be read field by field. Assumes nothing.
 use mathlib.Core.Path.{_≡_, refl, ap, _∙_}
-use mathlib.Core.Bool.{Bool, true, false}
 use mathlib.Core.List.{List}
 use Prim.Native.Nat.{ℕ, zero, suc, _≤_, _<_}
 use native.Mathlib.Nat.{not-suc-le-zero}
 use native.Mathlib.Omega.{arith}
-use lib.Dec.{eqb}
-use borrow.Author.Tests.{eqb-true, eqb-false}
+use Rattle.word.proofs.Cases.{last-or}
 use Rattle.state.specs.declared.layout.Shape.{Shape}
 use Rattle.state.specs.Layout.{Slot, Exists, Room}
 use Rattle.state.specs.Loop.{upTo}
@@ -45,30 +43,22 @@ module _ (shape : Shape) (Mine : ℕ → Slot → Type 0) (f : ℕ → List ℕ 
         → (i : ℕ) → i < n → Agree shape (Mine i) (upTo f n s) (f i s)
     unfolding upTo
     steps-own zero s steps h i b = absurd (not-suc-le-zero b)
-    steps-own (suc n) s steps h i b = last-or (eqb i n) refl (λ below. steps-own n s (λ j c. steps j (omega arith)) h i below)
-      where
-        sooner : (j : ℕ) → j < n → Local shape (Mine j) (f j)
-        sooner j c = steps j (omega arith)
-
-        last-or : (t : Bool) → eqb i n ≡ t → (i < n → Agree shape (Mine i) (upTo f n s) (f i s)) → Agree shape (Mine i) (f n (upTo f n s)) (f i s)
-        last-or true p earlier =
-            let e : i ≡ n = eqb-true i n p in
-            rw e (steps n (omega arith) .own (upTo f n s) s (steps-room n s sooner h) h (before-last n s sooner))
-        last-or false p earlier =
-            let d : i ≡ n → ⊥ = eqb-false i n p in
-            record { agree = λ t e m. steps n (omega arith) .others (upTo f n s) t e (λ mn. d (apart i n t m mn)) ∙ earlier (omega arith) .agree t e m }
+    steps-own (suc n) s steps h i b =
+        last-or i n b
+        (λ e. rw e (steps n (omega arith) .own (upTo f n s) s (steps-room n s (λ j c. steps j (omega arith)) h) h (before-last n s (λ j c. steps j (omega arith)))))
+        (λ c. record {
+          agree = λ t e m.
+              steps n (omega arith) .others (upTo f n s) t e (λ mn. let p : i ≡ n = apart i n t m mn in omega arith)
+              ∙ steps-own n s (λ j k. steps j (omega arith)) h i c .agree t e m;
+        })
 
 -- steps that change nothing may be left out
 pub up-idle : (f : ℕ → List ℕ → List ℕ) (s : List ℕ) (n m : ℕ) → m ≤ n → ((i : ℕ) (r : List ℕ) → m ≤ i → i < n → f i r ≡ r) → upTo f n s ≡ upTo f m s
 unfolding upTo
 up-idle f s zero m h idle = let e : m ≡ 0 = omega arith in rw e
-up-idle f s (suc n) m h idle = last-or (eqb m (suc n)) refl (λ earlier. up-idle f s n m earlier (λ i r a b. idle i r a (omega arith)))
-  where
-    last-or : (b : Bool) → eqb m (suc n) ≡ b → (m ≤ n → upTo f n s ≡ upTo f m s) → f n (upTo f n s) ≡ upTo f m s
-    last-or true p earlier = let e : m ≡ suc n = eqb-true m (suc n) p in rw e
-    last-or false p earlier =
-        let d : m ≡ suc n → ⊥ = eqb-false m (suc n) p in
-        idle n (upTo f n s) (omega arith) (omega arith) ∙ earlier (omega arith)
+up-idle f s (suc n) m h idle =
+    last-or m (suc n) (omega arith) (λ e. rw e)
+    (λ b. idle n (upTo f n s) (omega arith) (omega arith) ∙ up-idle f s n m (omega arith) (λ i r a c. idle i r a (omega arith)))
 
 pub up-same : (f g : ℕ → List ℕ → List ℕ) (s : List ℕ) (n : ℕ) → ((i : ℕ) (r : List ℕ) → i < n → f i r ≡ g i r) → upTo f n s ≡ upTo g n s
 unfolding upTo

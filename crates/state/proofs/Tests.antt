@@ -4,8 +4,7 @@ use mathlib.Core.Bool.{Bool, true, false, _&&_, true≢false, false≢true}
 use Prim.Native.Nat.{ℕ, zero, suc, _<_}
 use native.Mathlib.Nat.{not-suc-le-zero}
 use native.Mathlib.Omega.{arith}
-use lib.Dec.{eqb}
-use borrow.Author.Tests.{eqb-true, eqb-false}
+use Rattle.word.proofs.Cases.{last-or}
 use Rattle.state.specs.Loop.{everyBelow}
 
 pub left-true : (a b : Bool) → (a && b) ≡ true → a ≡ true
@@ -20,11 +19,8 @@ right-true false b e = absurd (false≢true e)
 pub every-at : (f : ℕ → Bool) (n i : ℕ) → everyBelow f n ≡ true → i < n → f i ≡ true
 unfolding everyBelow
 every-at f zero i e h = absurd (not-suc-le-zero h)
-every-at f (suc n) i e h = last-or (eqb i n) refl (λ below. every-at f n i (left-true (everyBelow f n) (f n) e) below)
-  where
-    last-or : (b : Bool) → eqb i n ≡ b → (i < n → f i ≡ true) → f i ≡ true
-    last-or true p before = rw (eqb-true i n p) (right-true (everyBelow f n) (f n) e)
-    last-or false p before = let d : i ≡ n → ⊥ = eqb-false i n p in before (omega arith)
+every-at f (suc n) i e h =
+    last-or i n h (λ p. rw p (right-true (everyBelow f n) (f n) e)) (λ below. every-at f n i (left-true (everyBelow f n) (f n) e) below)
 
 pub every-fails : (f : ℕ → Bool) (n i : ℕ) → f i ≡ false → i < n → everyBelow f n ≡ false
 every-fails f n i e h = go (everyBelow f n) refl

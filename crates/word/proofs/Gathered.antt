@@ -1,14 +1,12 @@
 -- Fields of one width, for every width and number of fields: each is read back, the word fits their bits, and fields of 0 on top may be
 -- left out. Assumes nothing.
 use mathlib.Core.Path.{_≡_, refl, sym, ap, _∙_}
-use mathlib.Core.Bool.{Bool, true, false}
 use Prim.Native.Nat.{ℕ, zero, suc, _+_, _*_, _-_, _/_, _%_, _^_, _≤_, _<_}
 use native.Mathlib.Nat.{not-suc-le-zero, mul-suc, mul-zero, zero-mul, one-mul, mul-le-mul-left, add-comm, add-zero, mod-eq-of-lt, lt-of-lt-of-le}
 use native.Mathlib.Omega.{arith}
 use lib.Arith.{digits-lt}
-use lib.Dec.{eqb}
 use lib.Pow.{pow-mono, pow-add, high, low, mod-mod-pow, shl-exact}
-use borrow.Author.Tests.{eqb-true, eqb-false}
+use Rattle.word.proofs.Cases.{last-or}
 use Rattle.word.specs.Fields.{field, fieldAt, gathered}
 
 -- a field below the bits of `hi` does not see them
@@ -34,31 +32,23 @@ module _ (w : ℕ) (f : ℕ → ℕ) where
     pub gathered-field : (n i : ℕ) → i < n → fieldAt w i (gathered w f n) ≡ f i
     unfolding gathered
     gathered-field zero i h = absurd (not-suc-le-zero h)
-    gathered-field (suc n) i h = last-or (eqb i n) refl (λ below. gathered-field n i below)
-      where
-        last-or : (b : Bool) → eqb i n ≡ b → (i < n → fieldAt w i (gathered w f n) ≡ f i) → fieldAt w i (gathered w f n + f n * 2 ^ (w * n)) ≡ f i
-        last-or true p earlier =
-            let e : i ≡ n = eqb-true i n p in
-            rw (e, add-comm (gathered w f n), high (f n) (w * n) (gathered-below n)) (mod-eq-of-lt (narrow n))
-        last-or false p earlier =
-            let d : i ≡ n → ⊥ = eqb-false i n p in
-            let b : suc i ≤ n = omega arith in
-            let c : w * suc i ≤ w * n = mul-le-mul-left w b in
-            let r : w + w * i ≤ w * n = rw (mul-suc w i, add-comm (w * i) w) at c in
-            rw add-comm (field-low (w * i) w (w * n) (f n) r (gathered-below n)) ∙ earlier b
+    gathered-field (suc n) i h =
+        last-or i n h
+        (λ e. rw (e, add-comm (gathered w f n), high (f n) (w * n) (gathered-below n)) (mod-eq-of-lt (narrow n)))
+        (λ b.
+        let c : w * suc i ≤ w * n = mul-le-mul-left w b in
+        let r : w + w * i ≤ w * n = rw (mul-suc w i, add-comm (w * i) w) at c in
+        rw add-comm (field-low (w * i) w (w * n) (f n) r (gathered-below n)) ∙ gathered-field n i b)
 
   -- fields of 0 on top may be left out
   pub gathered-idle : (n m : ℕ) → m ≤ n → ((i : ℕ) → m ≤ i → i < n → f i ≡ 0) → gathered w f n ≡ gathered w f m
   unfolding gathered
   gathered-idle zero m h idle = let e : m ≡ 0 = omega arith in rw e
-  gathered-idle (suc n) m h idle = last-or (eqb m (suc n)) refl (λ earlier. gathered-idle n m earlier (λ i a b. idle i a (omega arith)))
-    where
-      last-or : (b : Bool) → eqb m (suc n) ≡ b → (m ≤ n → gathered w f n ≡ gathered w f m) → gathered w f n + f n * 2 ^ (w * n) ≡ gathered w f m
-      last-or true p earlier = let e : m ≡ suc n = eqb-true m (suc n) p in rw e
-      last-or false p earlier =
-          let d : m ≡ suc n → ⊥ = eqb-false m (suc n) p in
-          let z : f n ≡ 0 = idle n (omega arith) (omega arith) in
-          simp (z, zero-mul, add-zero) (earlier (omega arith))
+  gathered-idle (suc n) m h idle =
+      last-or m (suc n) (omega arith) (λ e. rw e)
+      (λ b.
+      let z : f n ≡ 0 = idle n (omega arith) (omega arith) in
+      simp (z, zero-mul, add-zero) (gathered-idle n m (omega arith) (λ i a c. idle i a (omega arith))))
 
 pub gathered-same : (w : ℕ) (f g : ℕ → ℕ) (n : ℕ) → ((i : ℕ) → i < n → f i ≡ g i) → gathered w f n ≡ gathered w g n
 unfolding gathered

@@ -22,7 +22,7 @@ use Rattle.interrupt.specs.declared.record.Owner.the-variants.{Nobody, Vcpu}
 use Rattle.interrupt.specs.declared.record.InterruptRecord.{InterruptRecord}
 
 -- each part of a record, written and read back
-bit-fits : (b : Bool) → bitOf b < 2 ^ 1
+pub bit-fits : (b : Bool) → bitOf b < 2 ^ 1
 bit-fits true = omega arith
 bit-fits false = omega arith
 
