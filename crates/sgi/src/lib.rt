@@ -22,7 +22,7 @@ pub enum SgiTarget {
     Nobody,
 }
 
-fn set_pending(words: &mut [u32], shape: Shape, vcpu: GicVcpuId, sgi: IntId, pending: bool)
+pub fn set_pending(words: &mut [u32], shape: Shape, vcpu: GicVcpuId, sgi: IntId, pending: bool)
     requires { ⌜ Holds shape (Sources (vcpu .0) (sgi .0)) (now words) ⌝ }
     ensures { λ r. ⌜ now (words .exit) ≡ changed shape (vcpu .0) (sgi .0) (λ q. setPending q pending) (now (words .entry)) ⌝ }
 {

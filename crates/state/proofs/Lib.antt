@@ -4,6 +4,7 @@ pub mod Canonical
 pub mod Equal
 pub mod Numbers
 pub mod Places
+pub mod SlotKinds
 pub mod Starting
 pub mod Steps
 pub mod Tests

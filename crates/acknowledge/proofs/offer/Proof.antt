@@ -1,0 +1,36 @@
+-- `acknowledge::offer` meets its contract. Assumes nothing.
+use Rattle.acknowledge.specs.Acknowledge.{offer}
+use borrow.Author.Needs.{needs}
+use Rattle.acknowledge.proofs.offer.Statement.{statement}
+use Rattle.acknowledge.proofs.offer.Tie as tie
+
+both-enabled-requires : tie.Need-both-enabled-requires
+both-enabled-requires c κs = search needs
+
+running-priority-requires : tie.Need-running-priority-requires
+running-priority-requires c κs = search needs
+
+highest-pending-requires : tie.Need-highest-pending-requires
+highest-pending-requires c κs = search needs
+
+preempting-requires : tie.Need-preempting-requires
+preempting-requires c κs = search needs
+
+returns : tie.Need-returns
+unfolding offer
+returns c = simp (c .preempting .ensures, c .before .highest-pending .ensures, c .before .before .running-priority .ensures, ← c .before .before .before .before .both-enabled .ensures, c .before .before .before .if1 .taken)
+
+returns-2 : tie.Need-returns-2
+unfolding offer
+returns-2 c = simp (← c .before .both-enabled .ensures, c .if1 .left)
+
+pub offer-spec : {M : Type 1} → statement M
+offer-spec =
+    tie.close
+    (tie.spec
+    both-enabled-requires
+    running-priority-requires
+    highest-pending-requires
+    preempting-requires
+    returns
+    returns-2)

@@ -1,0 +1,174 @@
+// IAR: the best candidate goes to a vCPU, if it may interrupt what runs there.
+ghost use mathlib.Core.Path.{_≡_};
+ghost use Prim.Native.Nat.{_+_, _*_, _<_};
+ghost use Rattle.state.specs.Layout.{Sources};
+ghost use Rattle.state.specs.Words.{Reached, Holds, changed, withSources};
+ghost use Rattle.select.specs.declared.Selected.the-variants.{Best};
+ghost use Rattle.service.specs.Service.{Served};
+ghost use Rattle.acknowledge.specs.Acknowledge.{preempting, offer, lowestSource, sourceOf, pendIfLeft, sourceTaken, givenRecord, given, answered, taken, acknowledge, acknowledged, Acknowledging, Givable};
+use interrupt::GicVcpuId;
+use interrupt::IntId;
+use interrupt::InterruptRecord;
+use interrupt::InterruptState;
+use interrupt::Owner;
+use interrupt::Priority;
+use select::Selected;
+use select::both_enabled;
+use select::highest_pending;
+use service::depth;
+use service::push_v2_active;
+use service::running_priority;
+use sgi::set_pending;
+use state::Entry;
+use state::Shape;
+use state::words::distributor_enabled;
+use state::words::put_record;
+use state::words::put_sgi_sources;
+use state::words::record;
+use state::words::sgi_sources;
+use targets::vcpu_bit;
+
+// What a read gives: a value, or refusal 7.
+pub enum Read {
+    Value(u32),
+    StackFull,
+}
+
+fn preempting(selected: Selected, running: Priority) -> Selected
+    ensures { λ r. ⌜ r ≡ preempting (running .0) selected ⌝ }
+{
+    match selected {
+        Selected::Best(entry) => {
+            if entry.priority.0 < running.0 {
+                Selected::Best(entry)
+            } else {
+                Selected::Nothing
+            }
+        }
+        Selected::Nothing => Selected::Nothing,
+    }
+}
+
+// What an IAR read would hand out now.
+pub fn offer(words: &[u32], shape: Shape, vcpu: GicVcpuId) -> Selected
+    requires { ⌜ Served shape (vcpu .0) (now words) ⌝ }
+    ensures { λ r. ⌜ r ≡ offer shape (vcpu .0) (now (words .entry)) ⌝ }
+{
+    if both_enabled(words, shape, vcpu) {
+        let running = running_priority(words, shape, vcpu);
+        preempting(highest_pending(words, shape, vcpu), running)
+    } else {
+        Selected::Nothing
+    }
+}
+
+fn lowest_source(sources: u8) -> GicVcpuId
+    ensures { λ r. ⌜ (r .0 ≡ lowestSource sources) × (r .0 < 8) ⌝ }
+{
+    let mut i = 0;
+    while i < 8 {
+        if (sources >> i) % 2 == 1 {
+            return GicVcpuId(i);
+        }
+        i += 1;
+    }
+    GicVcpuId(0)
+}
+
+fn sgi_source(words: &[u32], shape: Shape, vcpu: GicVcpuId, intid: IntId) -> GicVcpuId
+    requires { ⌜ Reached shape (vcpu .0) (intid .0) (now words) ⌝ }
+    ensures { λ r. ⌜ (r .0 ≡ sourceOf shape (vcpu .0) (intid .0) (now (words .entry))) × (r .0 < 8) ⌝ }
+{
+    if intid.0 < 16 {
+        lowest_source(sgi_sources(words, shape, vcpu, intid))
+    } else {
+        GicVcpuId(0)
+    }
+}
+
+fn leave_sources(words: &mut [u32], shape: Shape, vcpu: GicVcpuId, sgi: IntId, sources: u8)
+    requires { ⌜ Holds shape (Sources (vcpu .0) (sgi .0)) (now words) ⌝ }
+    ensures { λ r. ⌜ now (words .exit) ≡ pendIfLeft shape (vcpu .0) (sgi .0) (withSources shape (vcpu .0) (sgi .0) sources (now (words .entry))) ⌝ }
+{
+    put_sgi_sources(words, shape, vcpu, sgi, sources);
+    if sources != 0 {
+        set_pending(words, shape, vcpu, sgi, true);
+    }
+}
+
+fn take_sgi_source(
+    words: &mut [u32],
+    shape: Shape,
+    vcpu: GicVcpuId,
+    intid: IntId,
+    source: GicVcpuId,
+)
+    requires { ⌜ (Reached shape (vcpu .0) (intid .0) (now words)) × (source .0 < 8) ⌝ }
+    ensures { λ r. ⌜ now (words .exit) ≡ sourceTaken shape (vcpu .0) (intid .0) (source .0) (now (words .entry)) ⌝ }
+{
+    if intid.0 < 16 {
+        let left = sgi_sources(words, shape, vcpu, intid) & !vcpu_bit(source);
+        leave_sources(words, shape, vcpu, intid, left);
+    }
+}
+
+fn given_record(record: InterruptRecord, vcpu: GicVcpuId) -> InterruptRecord
+    ensures { λ r. ⌜ r ≡ givenRecord (vcpu .0) «record» ⌝ }
+{
+    let marked = record.mark_inflight().set_owner(Owner::Vcpu(vcpu));
+    marked.synchronize_inflight(InterruptState::Active).after
+}
+
+fn mark_inflight(words: &mut [u32], shape: Shape, vcpu: GicVcpuId, intid: IntId)
+    requires { ⌜ Reached shape (vcpu .0) (intid .0) (now words) ⌝ }
+    ensures { λ r. ⌜ now (words .exit) ≡ changed shape (vcpu .0) (intid .0) (givenRecord (vcpu .0)) (now (words .entry)) ⌝ }
+{
+    let given = given_record(record(words, shape, vcpu, intid), vcpu);
+    put_record(words, shape, vcpu, intid, given);
+}
+
+// The source is read first; after that the order does not count, for each call has slots of its own.
+fn give(words: &mut [u32], shape: Shape, vcpu: GicVcpuId, entry: Entry) -> u32
+    requires { ⌜ Givable shape (vcpu .0) entry (now words) ⌝ }
+    ensures { λ r. ⌜ (r ≡ entry .intid .0 + 1024 * sourceOf shape (vcpu .0) (entry .intid .0) (now (words .entry))) × (now (words .exit) ≡ given shape (vcpu .0) entry (now (words .entry))) ⌝ }
+{
+    let intid = entry.intid;
+    let source = sgi_source(words, shape, vcpu, intid);
+    push_v2_active(words, shape, vcpu, entry);
+    mark_inflight(words, shape, vcpu, intid);
+    take_sgi_source(words, shape, vcpu, intid, source);
+    intid.0 + 1024 * (source.0 as u32)
+}
+
+fn accept(words: &mut [u32], shape: Shape, vcpu: GicVcpuId, entry: Entry) -> Read
+    requires { ⌜ (Served shape (vcpu .0) (now words)) × (entry .intid .0 < shape .limit) ⌝ }
+    ensures { λ r. ⌜ (r ≡ answered shape (vcpu .0) (now (words .entry)) (Best entry)) × (now (words .exit) ≡ taken shape (vcpu .0) (now (words .entry)) (Best entry)) ⌝ }
+{
+    if depth(words, shape, vcpu) < 255 {
+        Read::Value(give(words, shape, vcpu, entry))
+    } else {
+        Read::StackFull
+    }
+}
+
+fn take_pending_delivery(words: &mut [u32], shape: Shape, vcpu: GicVcpuId) -> Read
+    requires { ⌜ Served shape (vcpu .0) (now words) ⌝ }
+    ensures { λ r. ⌜ (r ≡ acknowledge shape (vcpu .0) (now (words .entry))) × (now (words .exit) ≡ acknowledged shape (vcpu .0) (now (words .entry))) ⌝ }
+{
+    match offer(words, shape, vcpu) {
+        Selected::Best(entry) => accept(words, shape, vcpu, entry),
+        Selected::Nothing => Read::Value(IntId::SPURIOUS.0),
+    }
+}
+
+// While the Distributor is off, the vCPU need not exist.
+pub fn acknowledge_v2(words: &mut [u32], shape: Shape, vcpu: GicVcpuId) -> Read
+    requires { ⌜ Acknowledging shape (vcpu .0) (now words) ⌝ }
+    ensures { λ r. ⌜ (r ≡ acknowledge shape (vcpu .0) (now (words .entry))) × (now (words .exit) ≡ acknowledged shape (vcpu .0) (now (words .entry))) ⌝ }
+{
+    if distributor_enabled(words, shape) {
+        take_pending_delivery(words, shape, vcpu)
+    } else {
+        Read::Value(IntId::SPURIOUS.0)
+    }
+}

@@ -1,0 +1,38 @@
+-- `end::dir_v2` meets its contract. Assumes nothing.
+use mathlib.Core.Path.{sym, _∙_}
+use borrow.Author.Needs.{needs}
+use Rattle.end.proofs.dir_v2.Statement.{statement}
+use Rattle.end.proofs.dir_v2.Tie as tie
+
+decode-eoi-intid-requires : tie.Need-decode-eoi-intid-requires
+decode-eoi-intid-requires c κs = search needs
+
+enum-known-intid : tie.Need-enum-known-intid
+enum-known-intid c = search needs
+
+enum-told : tie.Need-enum-told
+enum-told c = search needs
+
+returns : tie.Need-returns
+returns c = (simp (← c .before .before .decode-eoi-intid .ensures, c .enum-told .given .1), simp (← c .before .before .decode-eoi-intid .ensures, c .enum-told .given .1))
+
+deactivate-interrupt-requires : tie.Need-deactivate-interrupt-requires
+deactivate-interrupt-requires c κs = (search needs, c .before .before .before .before .before .before .pre .served _ (sym (c .before .before .before .before .decode-eoi-intid .ensures) ∙ c .before .before .intid .given .1) .exists)
+
+same-length : tie.Need-same-length
+same-length c = search needs
+
+returns-2 : tie.Need-returns-2
+returns-2 c = (c .before .before .deactivate-interrupt .ensures .0 ∙ simp (← c .before .before .before .before .before .before .before .decode-eoi-intid .ensures, c .before .before .before .before .before .intid .given .1), c .before .before .deactivate-interrupt .ensures .1 ∙ simp (← c .before .before .before .before .before .before .before .decode-eoi-intid .ensures, c .before .before .before .before .before .intid .given .1))
+
+pub dir-v2-spec : {M : Type 1} → statement M
+dir-v2-spec =
+    tie.close
+    (tie.spec
+    decode-eoi-intid-requires
+    enum-known-intid
+    enum-told
+    returns
+    deactivate-interrupt-requires
+    same-length
+    returns-2)

@@ -1,0 +1,72 @@
+-- Which interrupt a vCPU is offered: document 01, "CPU interface places", Candidate and Best; IHI 0048, 3.3, "Interrupt prioritization".
+-- Left out on purpose: the running priority, which only an acknowledge looks at.
+use mathlib.Core.Bool.{Bool, true, not, cond, _&&_, _||_}
+use mathlib.Core.List.{List}
+use mathlib.Core.Path.{_≡_}
+use Prim.Native.Nat.{ℕ, zero, suc, _/_, _%_, _^_, _≤_, _<_}
+use lib.Dec.{eqb, ltb}
+use Rattle.interrupt.specs.declared.record.InterruptRecord.{InterruptRecord}
+use Rattle.word.specs.Word.{maskByte}
+use Rattle.state.specs.declared.layout.Shape.{Shape}
+use Rattle.state.specs.declared.layout.InterfaceValue.the-variants.{Control, PriorityMask}
+use Rattle.state.specs.declared.words.Entry.{Entry}
+use Rattle.state.specs.Layout.{Room}
+use Rattle.state.specs.Words.{recordAt, interfaceAt, enabledAt}
+use Rattle.select.specs.declared.Selected.{Selected}
+use Rattle.select.specs.declared.Selected.the-variants.{Best, Nothing}
+
+-- the record r of the number n is one for the vCPU v: "its private interrupts, and SPIs whose mask names it"
+abbrev pub offered : ℕ → ℕ → InterruptRecord → Bool
+offered v n r = ltb n 32 || eqb (maskByte (r .«cpu_target_mask») / 2 ^ v % 2) 1
+
+-- ".. that are enabled, pending, not active, with priority below PMR"
+abbrev pub eligible : ℕ → ℕ → ℕ → InterruptRecord → Bool
+eligible mask v n r = offered v n r && r .enabled && r .pending && not (r .active) && ltb (r .priority .0) mask
+
+unfoldable pub candidate : Shape → ℕ → List ℕ → ℕ → Bool
+candidate shape v s n = eligible (interfaceAt shape v PriorityMask s) v n (recordAt shape v n s)
+
+-- a number with its priority
+abbrev pub entryFor : Shape → ℕ → List ℕ → ℕ → Entry
+entryFor shape v s n = record { intid = record { 0 = n }; priority = recordAt shape v n s .priority }
+
+-- "smallest priority, then smallest number": a later number wins only with a strictly smaller priority
+abbrev pub wins : Entry → Selected → Bool
+wins e Nothing = true
+wins e (Best b) = ltb (e .priority .0) (b .priority .0)
+
+abbrev pub better : Bool → Entry → Selected → Selected
+better eligible e b = cond (eligible && wins e b) (Best e) b
+
+-- of the numbers below n
+unfoldable pub bestBelow : Shape → ℕ → List ℕ → ℕ → Selected
+bestBelow shape v s zero = Nothing
+bestBelow shape v s (suc n) = better (candidate shape v s n) (entryFor shape v s n) (bestBelow shape v s n)
+
+abbrev pub best : Shape → ℕ → List ℕ → Selected
+best shape v s = bestBelow shape v s (shape .limit)
+
+-- Distributor and interface are on: bit 0 of each CTLR
+abbrev pub bothOn : Shape → ℕ → List ℕ → Bool
+bothOn shape v s = enabledAt shape s && eqb (interfaceAt shape v Control s % 2) 1
+
+-- "HPPIR gives the best, without an SGI's source; 1023 if there is none or Distributor or interface is off"
+abbrev pub numberOf : Selected → ℕ
+numberOf Nothing = 1023
+numberOf (Best e) = e .intid .0
+
+unfoldable pub highestPending : Shape → ℕ → List ℕ → ℕ
+highestPending shape v s = cond (bothOn shape v s) (numberOf (best shape v s)) 1023
+
+-- words that hold a state with this vCPU
+pub record Looked (shape : Shape) (v : ℕ) (s : List ℕ) : Type 0 where
+  pub state : Room shape s
+  pub exists : v < shape .count
+
+-- what it is to be the best of the numbers below n: a candidate, and "smallest priority, then smallest number"
+pub record IsBest (shape : Shape) (v : ℕ) (s : List ℕ) (n : ℕ) (e : Entry) : Type 0 where
+  pub below : e .intid .0 < n
+  pub chosen : candidate shape v s (e .intid .0) ≡ true
+  pub priority : e .priority .0 ≡ recordAt shape v (e .intid .0) s .priority .0
+  pub smallest : (m : ℕ) → m < n → candidate shape v s m ≡ true → e .priority .0 ≤ recordAt shape v m s .priority .0
+  pub first : (m : ℕ) → m < n → candidate shape v s m ≡ true → recordAt shape v m s .priority .0 ≡ e .priority .0 → e .intid .0 ≤ m
