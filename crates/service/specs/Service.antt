@@ -51,3 +51,8 @@ pub record Served (shape : Shape) (v : ℕ) (s : List ℕ) : Type 0 where
   pub state : Room shape s
   pub exists : v < shape .count
   pub deep : depthAt shape v s ≤ 255
+
+-- the same of every vCPU: what refusal 6 makes sure of
+pub record Sound (shape : Shape) (s : List ℕ) : Type 0 where
+  pub state : Room shape s
+  pub depths : (v : ℕ) → v < shape .count → depthAt shape v s ≤ 255

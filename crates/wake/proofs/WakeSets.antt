@@ -1,0 +1,48 @@
+-- What is computed before and after a call is the wake set as it is defined. Assumes nothing.
+use mathlib.Core.Path.{_≡_, refl, sym, ap, _∙_}
+use mathlib.Core.Bool.{Bool, true, false, _&&_}
+use mathlib.Core.List.{List}
+use Prim.Native.Nat.{ℕ, suc, _+_, _*_, _/_, _%_, _^_, _≤_, _<_}
+use native.Mathlib.Nat.{one-mul}
+use native.Mathlib.Omega.{arith}
+use lib.Dec.{eqb}
+use Rattle.word.specs.Fields.{fieldAt, gathered}
+use Rattle.word.specs.Word.{bitOf}
+use Rattle.word.proofs.Gathered.{gathered-field, gathered-fits, gathered-same}
+use Rattle.word.proofs.RecordWord.{bit-fits}
+use Rattle.state.specs.declared.layout.Shape.{Shape}
+use Rattle.state.specs.Layout.{Limits}
+use Rattle.state.specs.Loop.{everyBelow}
+use Rattle.state.proofs.Tests.{every-at}
+use Rattle.wake.specs.Wake.{wakeSet, woken, gives, amongGives, givenAmong, quietSet, wakeFrom}
+
+bit-is : (b : Bool) → eqb (bitOf b) 1 ≡ b
+bit-is true = refl
+bit-is false = refl
+
+-- one bit more fits a byte
+pub bits-fit : (number : Bool) (among : ℕ) (shape : Shape) (s : List ℕ) (v : ℕ) → v < 8
+    → gathered 1 (λ u. bitOf (amongGives number among shape s u)) v + bitOf (amongGives number among shape s v) * 2 ^ (1 * v) < 2 ^ 8
+unfolding gathered
+bits-fit number among shape s v h = gathered-fits 1 (λ u. bitOf (amongGives number among shape s u)) (λ u. bit-fits (amongGives number among shape s u)) (suc v) 8 (omega arith)
+
+-- every bit of 255 is set
+all-among : (v : ℕ) → v < 8 → eqb (255 / 2 ^ v % 2) 1 ≡ true
+unfolding everyBelow
+all-among v h = every-at (λ u. eqb (255 / 2 ^ u % 2) 1) 8 v refl h
+
+module _ (shape : Shape) (l : Limits shape) where
+  -- the bit of a vCPU among the quiet ones
+  pub quiet-bit : (s : List ℕ) (v : ℕ) → v < shape .count → eqb (quietSet shape s / 2 ^ v % 2) 1 ≡ gives false shape s v
+  unfolding givenAmong
+  quiet-bit s v h =
+      let f : ℕ → ℕ = λ u. bitOf (amongGives false 255 shape s u) in
+      let at : gathered 1 f (shape .count) / 2 ^ v % 2 ≡ f v = rw one-mul at (gathered-field 1 f (λ u. bit-fits (amongGives false 255 shape s u)) (shape .count) v h) in
+      ap (λ (x : ℕ). eqb x 1) at ∙ bit-is (amongGives false 255 shape s v) ∙ ap (λ (b : Bool). b && gives false shape s v) (all-among v (omega arith))
+
+  -- before and after together
+  pub wake-from : (before after : List ℕ) → wakeFrom (quietSet shape before) shape after ≡ wakeSet shape before after
+  unfolding givenAmong wakeSet
+  wake-from before after =
+      gathered-same 1 (λ v. bitOf (amongGives true (quietSet shape before) shape after v)) (λ v. bitOf (woken shape before after v)) (shape .count)
+      (λ v h. ap (λ (b : Bool). bitOf (b && gives true shape after v)) (quiet-bit before v h))
