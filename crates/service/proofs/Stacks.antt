@@ -47,6 +47,10 @@ stack-same shape v s r deep depth same = ap (stackTo shape v r) depth ∙ same-t
 
 -- a push
 module _ (shape : Shape) (v : ℕ) (e : Entry) (s : List ℕ) (h : Served shape v s) (room : depthAt shape v s < 255) where
+  pub pushed-room : Room shape (pushed shape v e s)
+  unfolding pushed
+  pushed-room = put-room shape (withInterface shape v Depth (depthAt shape v s + 1) s) (Stack v (depthAt shape v s)) (entryWord e) (put-room shape s (Interface v Depth) (depthAt shape v s + 1) (h .state))
+
   pub pushed-others : (t : Slot) → Exists shape t → (t ≡ Interface v Depth → ⊥) → (t ≡ Stack v (depthAt shape v s) → ⊥) → wordAt shape t (pushed shape v e s) ≡ wordAt shape t s
   unfolding pushed
   pushed-others t x no-depth no-entry =
@@ -78,6 +82,10 @@ below [] = []
 below (e ∷ es) = es
 
 module _ (shape : Shape) (v : ℕ) (s : List ℕ) (h : Served shape v s) (some : 0 < depthAt shape v s) where
+  pub popped-room : Room shape (popped shape v s)
+  unfolding popped
+  popped-room = put-room shape (withoutEntry shape v (depthAt shape v s - 1) s) (Interface v Depth) (depthAt shape v s - 1) (put-room shape s (Stack v (depthAt shape v s - 1)) 0 (h .state))
+
   pub popped-others : (t : Slot) → Exists shape t → (t ≡ Interface v Depth → ⊥) → (t ≡ Stack v (depthAt shape v s - 1) → ⊥) → wordAt shape t (popped shape v s) ≡ wordAt shape t s
   unfolding popped
   popped-others t x no-depth no-entry =

@@ -9,16 +9,12 @@ use lib.Dec.{eqb}
 use Rattle.word.specs.Fields.{fieldAt, gathered}
 use Rattle.word.specs.Word.{bitOf}
 use Rattle.word.proofs.Gathered.{gathered-field, gathered-fits, gathered-same}
-use Rattle.word.proofs.RecordWord.{bit-fits}
+use Rattle.word.proofs.RecordWord.{bit-fits, bit-back}
 use Rattle.state.specs.declared.layout.Shape.{Shape}
 use Rattle.state.specs.Layout.{Limits}
 use Rattle.state.specs.Loop.{everyBelow}
 use Rattle.state.proofs.Tests.{every-at}
 use Rattle.wake.specs.Wake.{wakeSet, woken, gives, amongGives, givenAmong, quietSet, wakeFrom}
-
-bit-is : (b : Bool) → eqb (bitOf b) 1 ≡ b
-bit-is true = refl
-bit-is false = refl
 
 -- one bit more fits a byte
 pub bits-fit : (number : Bool) (among : ℕ) (shape : Shape) (s : List ℕ) (v : ℕ) → v < 8
@@ -38,7 +34,7 @@ module _ (shape : Shape) (l : Limits shape) where
   quiet-bit s v h =
       let f : ℕ → ℕ = λ u. bitOf (amongGives false 255 shape s u) in
       let at : gathered 1 f (shape .count) / 2 ^ v % 2 ≡ f v = rw one-mul at (gathered-field 1 f (λ u. bit-fits (amongGives false 255 shape s u)) (shape .count) v h) in
-      ap (λ (x : ℕ). eqb x 1) at ∙ bit-is (amongGives false 255 shape s v) ∙ ap (λ (b : Bool). b && gives false shape s v) (all-among v (omega arith))
+      ap (λ (x : ℕ). eqb x 1) at ∙ bit-back (amongGives false 255 shape s v) ∙ ap (λ (b : Bool). b && gives false shape s v) (all-among v (omega arith))
 
   -- before and after together
   pub wake-from : (before after : List ℕ) → wakeFrom (quietSet shape before) shape after ≡ wakeSet shape before after

@@ -26,7 +26,7 @@ pub bit-fits : (b : Bool) → bitOf b < 2 ^ 1
 bit-fits true = omega arith
 bit-fits false = omega arith
 
-bit-back : (b : Bool) → eqb (bitOf b) 1 ≡ b
+pub bit-back : (b : Bool) → eqb (bitOf b) 1 ≡ b
 bit-back true = refl
 bit-back false = refl
 
