@@ -1,5 +1,3 @@
 -- Laws that belong to no one function.
-pub mod Answers
-pub mod Given
 pub mod Lowest
 pub mod Offers

@@ -1,8 +1,7 @@
 -- The test for a number that decodes is the decoder's. Assumes nothing.
-use mathlib.Core.Path.{_≡_, refl, sym, ap, _∙_, subst}
+use mathlib.Core.Path.{_≡_, refl, ap, _∙_}
 use mathlib.Core.Bool.{Bool, true, false, cond}
 use Prim.Native.Nat.{ℕ, _%_}
-use lib.Dec.{ltb}
 use Rattle.interrupt.specs.Types.{decoded}
 use Rattle.interrupt.specs.declared.types.IntId.{IntId}
 use Rattle.interrupt.specs.declared.types.DecodedIntId.{DecodedIntId}

@@ -3,17 +3,16 @@ use mathlib.Core.Path.{_≡_, refl, sym, ap, _∙_}
 use mathlib.Core.Bool.{true, true≢false}
 use mathlib.Core.List.{List, [], _∷_}
 use Prim.Native.Nat.{ℕ, zero, suc, _+_, _-_, _≤_, _<_}
-use native.Mathlib.Nat.{not-suc-le-zero}
 use native.Mathlib.Numerals.{add-one}
 use native.Mathlib.Omega.{arith}
 use Rattle.state.specs.declared.layout.Shape.{Shape}
 use Rattle.state.specs.declared.layout.InterfaceValue.the-variants.{Depth}
 use Rattle.state.specs.declared.words.Entry.{Entry}
 use Rattle.state.specs.Layout.{Slot, Interface, Stack, Exists, Room}
-use Rattle.state.specs.Words.{wordAt, entryOf, entryWord, entryAt, withInterface, withEntry, withoutEntry}
+use Rattle.state.specs.Words.{wordAt, entryOf, entryWord, entryAt, withInterface, withoutEntry}
 use Rattle.state.proofs.Accessors.{put-room, put-same, put-other, entry-same}
 use Rattle.state.proofs.SlotKinds.{kinds-apart}
-use Rattle.service.specs.Service.{depthAt, stackTo, stackAt, running, isNewest, pushed, popped, Served}
+use Rattle.service.specs.Service.{depthAt, stackTo, stackAt, isNewest, pushed, popped, Served}
 
 -- the stack by its depth
 module _ (shape : Shape) (v : ℕ) (s : List ℕ) where

@@ -1,12 +1,12 @@
 -- The direct test and IAR's answer agree: a vCPU is ready exactly if an IAR read by it would not give 1023. Assumes nothing.
 use mathlib.Core.Path.{_≡_, refl, sym, ap, _∙_}
-use mathlib.Core.Bool.{Bool, true, false, not, cond, _&&_, _||_, true≢false}
+use mathlib.Core.Bool.{Bool, true, false, not, cond, _&&_, _||_}
 use mathlib.Core.List.{List}
 use Prim.Native.Nat.{ℕ, zero, suc, _+_, _*_, _≤_, _<_}
 use native.Mathlib.Nat.{not-suc-le-zero}
 use native.Mathlib.Omega.{arith}
 use lib.Dec.{eqb, ltb}
-use borrow.Author.Tests.{lt-ltb, le-ltb, ltb-true, ltb-false, ne-eqb}
+use borrow.Author.Tests.{le-ltb, ltb-false, ne-eqb}
 use Rattle.word.proofs.Cases.{last-or}
 use Rattle.state.specs.declared.layout.Shape.{Shape}
 use Rattle.state.specs.declared.words.Entry.{Entry}

@@ -1,12 +1,12 @@
 -- What is computed before and after a call is the wake set as it is defined. Assumes nothing.
-use mathlib.Core.Path.{_≡_, refl, sym, ap, _∙_}
+use mathlib.Core.Path.{_≡_, refl, ap, _∙_}
 use mathlib.Core.Bool.{Bool, true, false, _&&_}
 use mathlib.Core.List.{List}
-use Prim.Native.Nat.{ℕ, suc, _+_, _*_, _/_, _%_, _^_, _≤_, _<_}
+use Prim.Native.Nat.{ℕ, suc, _+_, _*_, _/_, _%_, _^_, _<_}
 use native.Mathlib.Nat.{one-mul}
 use native.Mathlib.Omega.{arith}
 use lib.Dec.{eqb}
-use Rattle.word.specs.Fields.{fieldAt, gathered}
+use Rattle.word.specs.Fields.{gathered}
 use Rattle.word.specs.Word.{bitOf}
 use Rattle.word.proofs.Gathered.{gathered-field, gathered-fits, gathered-same}
 use Rattle.word.proofs.RecordWord.{bit-fits, bit-back}

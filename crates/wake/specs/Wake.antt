@@ -10,7 +10,7 @@ use Rattle.word.specs.Word.{bitOf}
 use Rattle.state.specs.declared.layout.Shape.{Shape}
 use Rattle.state.specs.Words.{recordAt}
 use Rattle.select.specs.Select.{candidate, bothOn}
-use Rattle.service.specs.Service.{depthAt, running}
+use Rattle.service.specs.Service.{running}
 use Rattle.acknowledge.specs.declared.Read.{Read}
 use Rattle.acknowledge.specs.declared.Read.the-variants.{Value, StackFull}
 use Rattle.acknowledge.specs.Acknowledge.{acknowledge}

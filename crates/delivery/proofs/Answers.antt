@@ -1,0 +1,93 @@
+-- An IAR read as a whole: if it hands out an interrupt, the stack is the old stack with the new entry, and no record changes but the one
+-- given; if it answers 1023 or is refused by 7, nothing changes. Assumes nothing.
+use mathlib.Core.Path.{_≡_, refl, ap, _∙_, subst}
+use mathlib.Core.Bool.{Bool, true, false, cond}
+use mathlib.Core.List.{List, _∷_}
+use Prim.Native.Nat.{ℕ, _+_, _*_, _≤_, _<_}
+use native.Mathlib.Omega.{arith}
+use lib.Dec.{ltb}
+use borrow.Author.Tests.{lt-ltb}
+use Rattle.word.proofs.RecordWord.{decoded-in-range}
+use Rattle.state.specs.declared.layout.Shape.{Shape}
+use Rattle.state.specs.declared.words.Entry.{Entry}
+use Rattle.state.specs.Layout.{Limits}
+use Rattle.state.specs.Words.{wordAt, recordSlot, RecordThere, recordAt}
+use Rattle.select.specs.declared.Selected.{Selected}
+use Rattle.select.specs.declared.Selected.the-variants.{Best, Nothing}
+use Rattle.select.specs.Select.{IsBest}
+use Rattle.select.proofs.Meaning.{best-is}
+use Rattle.service.specs.Service.{depthAt, stackAt, Served}
+use Rattle.acknowledge.specs.declared.Read.{Read}
+use Rattle.acknowledge.specs.declared.Read.the-variants.{Value, StackFull}
+use Rattle.acknowledge.specs.Acknowledge.{offer, sourceOf, given, answered, taken, acknowledge, acknowledged, Givable}
+use Rattle.delivery.proofs.Given.{given-records, given-stack, given-stacks}
+use Rattle.acknowledge.proofs.Offers.{offer-is, offer-below}
+
+-- an interrupt is handed out
+module _ (shape : Shape) (v : ℕ) (s : List ℕ) (h : Served shape v s) (e : Entry) (o : offer shape v s ≡ Best e) (room : depthAt shape v s < 255) where
+  pub givable : Givable shape v e s
+  givable = record { served = h; room = room; numbered = offer-below shape v s e o }
+
+  pub acknowledge-is : acknowledge shape v s ≡ Value (e .intid .0 + 1024 * sourceOf shape v (e .intid .0) s)
+  unfolding answered
+  acknowledge-is = ap (answered shape v s) o ∙ simp (lt-ltb (depthAt shape v s) 255 room)
+
+  pub acknowledged-is : acknowledged shape v s ≡ given shape v e s
+  unfolding taken
+  acknowledged-is = ap (taken shape v s) o ∙ simp (lt-ltb (depthAt shape v s) 255 room)
+
+  chosen : IsBest shape v s (shape .limit) e
+  chosen = best-is shape v s e (offer-is shape v s e o .best-one)
+
+  pub acknowledged-stack : stackAt shape v (acknowledged shape v s) ≡ e ∷ stackAt shape v s
+  acknowledged-stack =
+      let below : e .intid .0 < shape .limit = chosen .below in
+      let byte = decoded-in-range (wordAt shape (recordSlot v (e .intid .0)) s) .priority-byte in
+      ap (stackAt shape v) acknowledged-is
+      ∙ given-stack shape v e s givable (omega (arith, below, h .state .limits .few-numbers)) (omega (arith, byte, chosen .priority))
+
+  pub acknowledged-stacks : (u : ℕ) → u < shape .count → (u ≡ v → ⊥) → depthAt shape u s ≤ 255 → stackAt shape u (acknowledged shape v s) ≡ stackAt shape u s
+  acknowledged-stacks u x apart deep = ap (stackAt shape u) acknowledged-is ∙ given-stacks shape v e s givable u x apart deep
+
+  pub acknowledged-records : (u m : ℕ) → RecordThere shape u m → (recordSlot u m ≡ recordSlot v (e .intid .0) → ⊥) → recordAt shape u m (acknowledged shape v s) ≡ recordAt shape u m s
+  acknowledged-records u m x apart = ap (recordAt shape u m) acknowledged-is ∙ given-records shape v e s givable u m x apart
+
+-- none is
+isValue : Read → Type 0
+isValue (Value x) = Unit
+isValue StackFull = ⊥
+
+valueOf : Read → ℕ
+valueOf (Value x) = x
+valueOf StackFull = 0
+
+module _ (shape : Shape) (v : ℕ) (s : List ℕ) where
+  pub none-unchanged : offer shape v s ≡ Nothing → acknowledged shape v s ≡ s
+  unfolding taken
+  none-unchanged o = ap (taken shape v s) o
+
+  -- refused by 7
+  pub full-unchanged : acknowledge shape v s ≡ StackFull → acknowledged shape v s ≡ s
+  unfolding answered taken isValue
+  full-unchanged p = go (offer shape v s) p
+    where
+      full : (b : Bool) (x : ℕ) (r : List ℕ) → cond b (Value x) StackFull ≡ StackFull → cond b r s ≡ s
+      full true x r q = absurd (subst isValue q tt)
+      full false x r q = refl
+
+      go : (b : Selected) → answered shape v s b ≡ StackFull → taken shape v s b ≡ s
+      go Nothing q = refl
+      go (Best e) q = full (ltb (depthAt shape v s) 255) (e .intid .0 + 1024 * sourceOf shape v (e .intid .0) s) (given shape v e s) q
+
+  -- 1023
+  pub spurious-unchanged : Limits shape → acknowledge shape v s ≡ Value 1023 → acknowledged shape v s ≡ s
+  unfolding answered taken valueOf
+  spurious-unchanged l p = go (offer shape v s) refl p
+    where
+      some : (e : Entry) (b : Bool) (r : List ℕ) → e .intid .0 < shape .limit → cond b (Value (e .intid .0 + 1024 * sourceOf shape v (e .intid .0) s)) StackFull ≡ Value 1023 → cond b r s ≡ s
+      some e true r below q = let w : e .intid .0 + 1024 * sourceOf shape v (e .intid .0) s ≡ 1023 = ap valueOf q in absurd (omega (arith, w, below, l .few-numbers))
+      some e false r below q = refl
+
+      go : (b : Selected) → offer shape v s ≡ b → answered shape v s b ≡ Value 1023 → taken shape v s b ≡ s
+      go Nothing o q = refl
+      go (Best e) o q = some e (ltb (depthAt shape v s) 255) (given shape v e s) (offer-below shape v s e o) q

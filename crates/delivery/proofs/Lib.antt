@@ -1,0 +1,5 @@
+-- Laws that belong to no one function.
+pub mod Answers
+pub mod Deactivation
+pub mod Ended
+pub mod Given
