@@ -1,5 +1,5 @@
 -- Deactivate, and so DIR: the record of the number becomes what document 01 says, and no other slot changes. Assumes nothing.
-use mathlib.Core.Path.{_≡_, refl, sym, ap}
+use mathlib.Core.Path.{_≡_, refl, ap}
 use mathlib.Core.Bool.{Bool, true, false, cond, _&&_}
 use mathlib.Core.List.{List}
 use Prim.Native.Nat.{ℕ, _≤_, _<_}
@@ -15,7 +15,7 @@ use Rattle.state.specs.declared.layout.InterfaceValue.the-variants.{Depth}
 use Rattle.state.specs.Layout.{Slot, Interface, Stack, Exists, Room}
 use Rattle.state.specs.Words.{wordAt, recordSlot, RecordThere, recordAt, changed}
 use Rattle.state.proofs.Accessors.{put-room, put-other, record-exists, record-same}
-use Rattle.state.proofs.SlotKinds.{record-apart}
+use Rattle.state.proofs.SlotKinds.{apart-record}
 use Rattle.service.specs.Service.{depthAt, stackAt}
 use Rattle.service.proofs.Stacks.{stack-same}
 use Rattle.end.specs.End.{servedHere, onlyActive, retire, deactivated}
@@ -34,24 +34,24 @@ module _ (shape : Shape) (v n : ℕ) (s : List ℕ) (h : Room shape s) (exists :
   there b = record { numbered = b; banked = λ c. exists }
 
   -- the three cases, below the limit or not
-  module _ (P : List ℕ → Type 0) (same : P s) (written : n < shape .limit → (f : InterruptRecord → InterruptRecord) → P (changed shape v n f s)) where
-    cases : P (deactivated shape v n s)
+  module _ (P : List ℕ → Type 0) (same : P s) (written : n < shape .limit → (f : InterruptRecord → InterruptRecord) → ((r : InterruptRecord) → InRange r → InRange (f r)) → P (changed shape v n f s)) where
+    pub deactivated-cases : P (deactivated shape v n s)
     unfolding deactivated
-    cases = go (ltb n (shape .limit)) refl (servedHere v (recordAt shape v n s)) (onlyActive (recordAt shape v n s))
+    deactivated-cases = go (ltb n (shape .limit)) refl (servedHere v (recordAt shape v n s)) (onlyActive (recordAt shape v n s))
       where
         go : (b : Bool) → ltb n (shape .limit) ≡ b → (c d : Bool) → P (cond (b && c) (changed shape v n retire s) (cond (b && d) (changed shape v n complete s) s))
-        go true e true d = written (ltb-true n (shape .limit) e) retire
-        go true e false true = written (ltb-true n (shape .limit) e) complete
+        go true e true d = written (ltb-true n (shape .limit) e) retire retire-in-range
+        go true e false true = written (ltb-true n (shape .limit) e) complete complete-in-range
         go true e false false = same
         go false e c d = same
 
   pub deactivated-room : Room shape (deactivated shape v n s)
-  deactivated-room = cases (Room shape) h (λ b f. put-room shape s (recordSlot v n) (wordOf (f (recordAt shape v n s))) h)
+  deactivated-room = deactivated-cases (Room shape) h (λ b f k. put-room shape s (recordSlot v n) (wordOf (f (recordAt shape v n s))) h)
 
   pub deactivated-others : (t : Slot) → Exists shape t → (t ≡ recordSlot v n → ⊥) → wordAt shape t (deactivated shape v n s) ≡ wordAt shape t s
   deactivated-others t x apart =
-      cases (λ r. wordAt shape t r ≡ wordAt shape t s) refl
-      (λ b f. put-other shape s t (recordSlot v n) (wordOf (f (recordAt shape v n s))) x (record-exists shape v n (there b)) apart)
+      deactivated-cases (λ r. wordAt shape t r ≡ wordAt shape t s) refl
+      (λ b f k. put-other shape s t (recordSlot v n) (wordOf (f (recordAt shape v n s))) x (record-exists shape v n (there b)) apart)
 
   -- no record but its own, and no stack
   pub deactivated-records : (u m : ℕ) → RecordThere shape u m → (recordSlot u m ≡ recordSlot v n → ⊥) → recordAt shape u m (deactivated shape v n s) ≡ recordAt shape u m s
@@ -60,8 +60,8 @@ module _ (shape : Shape) (v n : ℕ) (s : List ℕ) (h : Room shape s) (exists :
   pub deactivated-stacks : (u : ℕ) → u < shape .count → depthAt shape u s ≤ 255 → stackAt shape u (deactivated shape v n s) ≡ stackAt shape u s
   deactivated-stacks u x deep =
       stack-same shape u s (deactivated shape v n s) deep
-      (deactivated-others (Interface u Depth) x (λ p. record-apart v n (Interface u Depth) (λ q. omega arith) (sym p)))
-      (λ i b. deactivated-others (Stack u i) (x, b) (λ p. record-apart v n (Stack u i) (λ q. omega arith) (sym p)))
+      (deactivated-others (Interface u Depth) x (apart-record (Interface u Depth) v n (λ q. omega arith)))
+      (λ i b. deactivated-others (Stack u i) (x, b) (apart-record (Stack u i) v n (λ q. omega arith)))
 
   -- its own record
   pub deactivated-record : n < shape .limit → recordAt shape v n (deactivated shape v n s) ≡ deactivate v (recordAt shape v n s)

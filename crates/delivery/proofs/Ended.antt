@@ -1,6 +1,6 @@
 -- EOIR: if the number is the newest, the stack below is restored, and with EOI mode off its record deactivated; if not, nothing changes. No
 -- other record and no other stack does. Assumes nothing.
-use mathlib.Core.Path.{_≡_, refl, sym, ap, _∙_}
+use mathlib.Core.Path.{_≡_, refl, ap, _∙_}
 use mathlib.Core.Bool.{Bool, true, false}
 use mathlib.Core.List.{List, _∷_}
 use Prim.Native.Nat.{ℕ, _-_, _≤_, _<_}
@@ -12,7 +12,7 @@ use Rattle.state.specs.declared.words.Entry.{Entry}
 use Rattle.state.specs.Layout.{Slot, Interface, Stack, Exists, Room}
 use Rattle.state.specs.Words.{wordAt, recordSlot, RecordThere, recordAt}
 use Rattle.state.proofs.Accessors.{record-exists}
-use Rattle.state.proofs.SlotKinds.{kinds-apart, record-apart}
+use Rattle.state.proofs.SlotKinds.{kinds-apart, record-apart, apart-record}
 use Rattle.service.specs.Service.{depthAt, stackAt, isNewest, popped, dropped, Served}
 use Rattle.service.proofs.Stacks.{stack-same, newest-some, popped-room, popped-others, popped-depth, popped-stack}
 use Rattle.end.specs.End.{eoiMode, deactivated, ended, endRetired}
@@ -44,8 +44,8 @@ module _ (shape : Shape) (v n : ℕ) (s : List ℕ) (h : Served shape v s) where
 
     -- either way
     module _ (P : List ℕ → Type 0) (pop : P (popped shape v s)) (off : P (deactivated shape v n (popped shape v s))) where
-      cases : P (ended shape v n s)
-      cases = go (eoiMode shape v s) refl
+      pub ended-cases : P (ended shape v n s)
+      ended-cases = go (eoiMode shape v s) refl
         where
           go : (b : Bool) → eoiMode shape v s ≡ b → P (ended shape v n s)
           go true e = rw (ended-popped e) pop
@@ -57,7 +57,7 @@ module _ (shape : Shape) (v n : ℕ) (s : List ℕ) (h : Served shape v s) where
     pub ended-others : (t : Slot) → Exists shape t → (t ≡ recordSlot v n → ⊥) → (t ≡ Interface v Depth → ⊥) → (t ≡ Stack v (depthAt shape v s - 1) → ⊥) → wordAt shape t (ended shape v n s) ≡ wordAt shape t s
     ended-others t x no-record no-depth no-entry =
         let pop = popped-others shape v s h some t x no-depth no-entry in
-        cases (λ r. wordAt shape t r ≡ wordAt shape t s) pop (deactivated-others shape v n (popped shape v s) room (h .exists) t x no-record ∙ pop)
+        ended-cases (λ r. wordAt shape t r ≡ wordAt shape t s) pop (deactivated-others shape v n (popped shape v s) room (h .exists) t x no-record ∙ pop)
 
     -- the stack below
     pub ended-stack : (e : Entry) (es : List Entry) → stackAt shape v s ≡ e ∷ es → stackAt shape v (ended shape v n s) ≡ es
@@ -65,13 +65,13 @@ module _ (shape : Shape) (v n : ℕ) (s : List ℕ) (h : Served shape v s) where
         let pop = popped-stack shape v s h some e es p in
         let deep : depthAt shape v s ≤ 255 = h .deep in
         let deep₁ : depthAt shape v (popped shape v s) ≤ 255 = rw (popped-depth shape v s h some) (omega arith) in
-        cases (λ r. stackAt shape v r ≡ es) pop (deactivated-stacks shape v n (popped shape v s) room (h .exists) v (h .exists) deep₁ ∙ pop)
+        ended-cases (λ r. stackAt shape v r ≡ es) pop (deactivated-stacks shape v n (popped shape v s) room (h .exists) v (h .exists) deep₁ ∙ pop)
 
     pub ended-stacks : (u : ℕ) → u < shape .count → (u ≡ v → ⊥) → depthAt shape u s ≤ 255 → stackAt shape u (ended shape v n s) ≡ stackAt shape u s
     ended-stacks u x apart deep =
         stack-same shape u s (ended shape v n s) deep
-        (ended-others (Interface u Depth) x (λ p. record-apart v n (Interface u Depth) (λ q. omega arith) (sym p)) (λ p. apart (cc)) (kinds-apart (Interface u Depth) (Stack v (depthAt shape v s - 1)) (λ q. omega arith)))
-        (λ i b. ended-others (Stack u i) (x, b) (λ p. record-apart v n (Stack u i) (λ q. omega arith) (sym p)) (kinds-apart (Stack u i) (Interface v Depth) (λ q. omega arith)) (λ p. apart (cc)))
+        (ended-others (Interface u Depth) x (apart-record (Interface u Depth) v n (λ q. omega arith)) (λ p. apart (cc)) (kinds-apart (Interface u Depth) (Stack v (depthAt shape v s - 1)) (λ q. omega arith)))
+        (λ i b. ended-others (Stack u i) (x, b) (apart-record (Stack u i) v n (λ q. omega arith)) (kinds-apart (Stack u i) (Interface v Depth) (λ q. omega arith)) (λ p. apart (cc)))
 
     -- no record but its own
     pub ended-records : (u m : ℕ) → RecordThere shape u m → (recordSlot u m ≡ recordSlot v n → ⊥) → recordAt shape u m (ended shape v n s) ≡ recordAt shape u m s

@@ -1,9 +1,9 @@
 -- What an acknowledge leaves: the old stack with the new entry on it, the record given, of an SGI the sources but the one taken, and every
 -- other slot as it was. Assumes nothing.
-use mathlib.Core.Path.{_≡_, refl, sym, ap, _∙_}
+use mathlib.Core.Path.{_≡_, refl, ap, _∙_}
 use mathlib.Core.Bool.{Bool, true, false, cond}
 use mathlib.Core.List.{List, _∷_}
-use Prim.Native.Nat.{ℕ, _-_, _%_, _^_, _≤_, _<_}
+use Prim.Native.Nat.{ℕ, _+_, _-_, _%_, _^_, _≤_, _<_}
 use native.Mathlib.Nat.{lt-of-le-of-lt}
 use native.Mathlib.Omega.{arith}
 use lib.Bits.{and-le-l}
@@ -19,7 +19,7 @@ use Rattle.state.specs.declared.words.Entry.{Entry}
 use Rattle.state.specs.Layout.{Slot, Interface, Sources, Stack, Exists, Room}
 use Rattle.state.specs.Words.{wordAt, recordSlot, RecordThere, recordAt, changed, sourcesAt, withSources}
 use Rattle.state.proofs.Accessors.{put-room, put-other, record-exists, record-same, sources-same}
-use Rattle.state.proofs.SlotKinds.{kinds-apart, record-apart}
+use Rattle.state.proofs.SlotKinds.{kinds-apart, record-apart, apart-record}
 use Rattle.sgi.specs.Sgi.{mergedSources}
 use Rattle.service.specs.Service.{depthAt, stackAt, pushed}
 use Rattle.service.proofs.Stacks.{stack-same, pushed-room, pushed-others, pushed-depth, pushed-stack}
@@ -49,6 +49,24 @@ module _ (shape : Shape) (v n source : ℕ) (there : RecordThere shape v n) wher
           ∙ put-other shape s t (Sources v n) (mergedSources false (sourcesAt shape v n s) (2 ^ source)) x (there .banked (omega arith), sgi) no-sources
       go false e = refl
 
+  pub source-room : (s : List ℕ) → Room shape s → Room shape (sourceTaken shape v n source s)
+  unfolding sourceTaken pendIfLeft
+  source-room s h = go (ltb n 16)
+    where
+      after : List ℕ
+      after = withoutSource shape v n source s
+
+      left : Room shape after
+      left = put-room shape s (Sources v n) (mergedSources false (sourcesAt shape v n s) (2 ^ source)) h
+
+      pend : (b : Bool) → Room shape (cond b after (changed shape v n (λ r. setPending r true) after))
+      pend true = left
+      pend false = put-room shape after (recordSlot v n) (wordOf (setPending (recordAt shape v n after) true)) left
+
+      go : (b : Bool) → Room shape (cond b (pendIfLeft shape v n after) s)
+      go true = pend (eqb (sourcesAt shape v n after) 0)
+      go false = h
+
 module _ (shape : Shape) (v : ℕ) (e : Entry) (s : List ℕ) (g : Givable shape v e s) where
   there : RecordThere shape v (e .intid .0)
   there = record { numbered = g .numbered; banked = λ b. g .served .exists }
@@ -61,11 +79,28 @@ module _ (shape : Shape) (v : ℕ) (e : Entry) (s : List ℕ) (g : Givable shape
       source-others shape v (e .intid .0) (sourceOf shape v (e .intid .0) s) there before t x no-record no-sources
       ∙ put-other shape (pushed shape v e s) t (recordSlot v (e .intid .0)) (wordOf (givenRecord v (recordAt shape v (e .intid .0) (pushed shape v e s)))) x (record-exists shape v (e .intid .0) there) no-record
 
+  pub given-room : Room shape (given shape v e s)
+  unfolding given
+  given-room =
+      let before = changed shape v (e .intid .0) (givenRecord v) (pushed shape v e s) in
+      source-room shape v (e .intid .0) (sourceOf shape v (e .intid .0) s) there before
+      (put-room shape (pushed shape v e s) (recordSlot v (e .intid .0)) (wordOf (givenRecord v (recordAt shape v (e .intid .0) (pushed shape v e s)))) (pushed-room shape v e s (g .served) (g .room)))
+
   -- every other slot stays
   pub given-others : (t : Slot) → Exists shape t → (t ≡ recordSlot v (e .intid .0) → ⊥) → (t ≡ Sources v (e .intid .0) → ⊥) → (t ≡ Interface v Depth → ⊥) → (t ≡ Stack v (depthAt shape v s) → ⊥)
       → wordAt shape t (given shape v e s) ≡ wordAt shape t s
   given-others t x no-record no-sources no-depth no-entry =
       after-push t x no-record no-sources ∙ pushed-others shape v e s (g .served) (g .room) t x no-depth no-entry
+
+  pub given-depth : depthAt shape v (given shape v e s) ≡ depthAt shape v s + 1
+  given-depth =
+      after-push (Interface v Depth) (g .served .exists) (apart-record (Interface v Depth) v (e .intid .0) (λ q. omega arith)) (kinds-apart (Interface v Depth) (Sources v (e .intid .0)) (λ q. omega arith))
+      ∙ pushed-depth shape v e s (g .served) (g .room)
+
+  pub given-depths : (u : ℕ) → u < shape .count → (u ≡ v → ⊥) → depthAt shape u (given shape v e s) ≡ depthAt shape u s
+  given-depths u x apart =
+      given-others (Interface u Depth) x (apart-record (Interface u Depth) v (e .intid .0) (λ q. omega arith)) (kinds-apart (Interface u Depth) (Sources v (e .intid .0)) (λ q. omega arith))
+      (λ p. apart (cc)) (kinds-apart (Interface u Depth) (Stack v (depthAt shape v s)) (λ q. omega arith))
 
   -- no record but the one given
   pub given-records : (u m : ℕ) → RecordThere shape u m → (recordSlot u m ≡ recordSlot v (e .intid .0) → ⊥) → recordAt shape u m (given shape v e s) ≡ recordAt shape u m s
@@ -82,25 +117,23 @@ module _ (shape : Shape) (v : ℕ) (e : Entry) (s : List ℕ) (g : Givable shape
       let deeper = pushed-depth shape v e s (g .served) (g .room) in
       let room : depthAt shape v s < 255 = g .room in
       stack-same shape v (pushed shape v e s) (given shape v e s) (rw deeper (omega arith))
-      (after-push (Interface v Depth) (g .served .exists) (λ p. record-apart v (e .intid .0) (Interface v Depth) (λ q. omega arith) (sym p)) (kinds-apart (Interface v Depth) (Sources v (e .intid .0)) (λ q. omega arith)))
-      (λ i c. after-push (Stack v i) (g .served .exists, c) (λ p. record-apart v (e .intid .0) (Stack v i) (λ q. omega arith) (sym p)) (kinds-apart (Stack v i) (Sources v (e .intid .0)) (λ q. omega arith)))
+      (after-push (Interface v Depth) (g .served .exists) (apart-record (Interface v Depth) v (e .intid .0) (λ q. omega arith)) (kinds-apart (Interface v Depth) (Sources v (e .intid .0)) (λ q. omega arith)))
+      (λ i c. after-push (Stack v i) (g .served .exists, c) (apart-record (Stack v i) v (e .intid .0) (λ q. omega arith)) (kinds-apart (Stack v i) (Sources v (e .intid .0)) (λ q. omega arith)))
       ∙ pushed-stack shape v e s (g .served) (g .room) a b
 
   -- and what the others have under service
   pub given-stacks : (u : ℕ) → u < shape .count → (u ≡ v → ⊥) → depthAt shape u s ≤ 255 → stackAt shape u (given shape v e s) ≡ stackAt shape u s
   given-stacks u x apart deep =
-      stack-same shape u s (given shape v e s) deep
-      (given-others (Interface u Depth) x (λ p. record-apart v (e .intid .0) (Interface u Depth) (λ q. omega arith) (sym p)) (kinds-apart (Interface u Depth) (Sources v (e .intid .0)) (λ q. omega arith))
-      (λ p. apart (cc)) (kinds-apart (Interface u Depth) (Stack v (depthAt shape v s)) (λ q. omega arith)))
-      (λ i c. given-others (Stack u i) (x, c) (λ p. record-apart v (e .intid .0) (Stack u i) (λ q. omega arith) (sym p)) (kinds-apart (Stack u i) (Sources v (e .intid .0)) (λ q. omega arith))
+      stack-same shape u s (given shape v e s) deep (given-depths u x apart)
+      (λ i c. given-others (Stack u i) (x, c) (apart-record (Stack u i) v (e .intid .0) (λ q. omega arith)) (kinds-apart (Stack u i) (Sources v (e .intid .0)) (λ q. omega arith))
       (kinds-apart (Stack u i) (Interface v Depth) (λ q. omega arith)) (λ p. apart (cc)))
 
 -- a record given is one that a word can hold
-given-in-range : (v : ℕ) (r : InterruptRecord) → v < 255 → InRange r → InRange (givenRecord v r)
+pub given-in-range : (v : ℕ) (r : InterruptRecord) → v < 255 → InRange r → InRange (givenRecord v r)
 unfolding givenRecord synchronizeInflight setState setOwner markInflight
 given-in-range v r h i = record { priority-byte = i .priority-byte; mask-byte = i .mask-byte; owner-byte = h }
 
-pending-in-range : (r : InterruptRecord) → InRange r → InRange (setPending r true)
+pub pending-in-range : (r : InterruptRecord) → InRange r → InRange (setPending r true)
 unfolding setPending
 pending-in-range r i = record { priority-byte = i .priority-byte; mask-byte = i .mask-byte; owner-byte = i .owner-byte }
 
@@ -110,7 +143,7 @@ module _ (shape : Shape) (v n : ℕ) (s : List ℕ) (h : Room shape s) (x : Exis
   sgi-there = record { numbered = omega arith; banked = λ b. x .0 }
 
   pended-sources : sourcesAt shape v n (pendIfLeft shape v n s) ≡ sourcesAt shape v n s
-  pended-sources = ap (λ (w : ℕ). w % 256) (pended-others shape v n 0 sgi-there s (Sources v n) x (λ p. record-apart v n (Sources v n) (λ q. omega arith) (sym p)))
+  pended-sources = ap (λ (w : ℕ). w % 256) (pended-others shape v n 0 sgi-there s (Sources v n) x (apart-record (Sources v n) v n (λ q. omega arith)))
 
   pended-record : recordAt shape v n (pendIfLeft shape v n s) ≡ cond (eqb (sourcesAt shape v n s) 0) (recordAt shape v n s) (setPending (recordAt shape v n s) true)
   unfolding pendIfLeft
@@ -163,7 +196,7 @@ module _ (shape : Shape) (v : ℕ) (e : Entry) (s : List ℕ) (g : Givable shape
         let n : ℕ = e .intid .0 in
         ap (λ (w : ℕ). w % 256)
         (put-other shape (pushed shape v e s) (Sources v n) (recordSlot v n) (wordOf (givenRecord v (recordAt shape v n (pushed shape v e s)))) here (record-exists shape v n (there shape v e s g))
-        (λ p. record-apart v n (Sources v n) (λ q. omega arith) (sym p))
+        (apart-record (Sources v n) v n (λ q. omega arith))
         ∙ pushed-others shape v e s (g .served) (g .room) (Sources v n) here (kinds-apart (Sources v n) (Interface v Depth) (λ q. omega arith)) (kinds-apart (Sources v n) (Stack v (depthAt shape v s)) (λ q. omega arith)))
 
     left-fits : left < 256

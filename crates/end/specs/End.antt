@@ -1,4 +1,4 @@
--- EOIR, DIR and Deactivate: document 01, "CPU interface places"; IHI 0048, 4.4.5, "End of Interrupt Register", and 4.4.12, "Deactivate
+-- EOIR, DIR and Deactivate: document 01, "CPU interface places"; IHI 0048, 4.4.5, "End of Interrupt Register", and 4.4.15, "Deactivate
 -- Interrupt Register". What is retired is a number, 1023 for none.
 use mathlib.Core.Path.{_≡_}
 use mathlib.Core.Bool.{Bool, false, not, cond, _&&_}

@@ -185,15 +185,7 @@ fn states(above: u32)
     }
 }
 
-// Nothing above uses all of these yet: `expect` has their values proved, by document 01.
-fn constants() {
-    check::expect(IntId::SPURIOUS.0 == 1023);
-    check::expect(Priority::IDLE.0 == 255);
-    check::expect(Priority::DEFAULT.0 == 0);
-}
-
 fn main() {
-    constants();
     for raw in 0..1024 {
         new_row(raw);
     }

@@ -99,6 +99,9 @@ module _ (shape : Shape) (v : ℕ) (s : List ℕ) (h : Served shape v s) (some :
       let d : ℕ = depthAt shape v s - 1 in
       put-same shape (withoutEntry shape v d s) (Interface v Depth) d (put-room shape s (Stack v d) 0 (h .state)) (h .exists)
 
+  pub popped-served : Served shape v (popped shape v s)
+  popped-served = let deep : depthAt shape v s ≤ 255 = h .deep in record { state = popped-room; exists = h .exists; deep = rw popped-depth (omega arith) }
+
   popped-rest : stackAt shape v (popped shape v s) ≡ stackTo shape v s (depthAt shape v s - 1)
   popped-rest =
       let d : ℕ = depthAt shape v s - 1 in

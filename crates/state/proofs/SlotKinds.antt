@@ -31,3 +31,6 @@ record-kind v n = go (ltb n 32)
 -- a record's slot is of no other kind
 pub record-apart : (v n : ℕ) (u : Slot) → (kindOf u ≡ 5 → ⊥) → recordSlot v n ≡ u → ⊥
 record-apart v n u apart p = apart (ap kindOf (sym p) ∙ record-kind v n)
+
+pub apart-record : (u : Slot) (v n : ℕ) → (kindOf u ≡ 5 → ⊥) → u ≡ recordSlot v n → ⊥
+apart-record u v n apart p = record-apart v n u apart (sym p)

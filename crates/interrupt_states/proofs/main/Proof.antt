@@ -10,9 +10,6 @@ Inv-loop raw₀ raw = raw ≤ 1024
 abbrev μ-loop : tie.MeasureT-loop
 μ-loop raw₀ raw = 1024 - raw
 
-constants-requires : tie.Need-constants-requires Inv-loop μ-loop
-constants-requires c κs = search needs
-
 loop-holds : tie.Need-loop-holds Inv-loop μ-loop
 loop-holds c = search needs
 
@@ -46,7 +43,6 @@ main-spec =
     (tie.spec
     Inv-loop
     μ-loop
-    constants-requires
     loop-holds
     new-row-requires
     add-raw
