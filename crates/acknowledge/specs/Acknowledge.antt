@@ -55,7 +55,7 @@ sourceTaken shape v n source s = cond (isSgi (record { 0 = n })) (pendIfLeft sha
 unfoldable pub givenRecord : ℕ → InterruptRecord → InterruptRecord
 givenRecord v r = synchronizeInflight (setOwner (markInflight r) (Vcpu (record { 0 = v }))) Active .after
 
--- ".. and pushes number and priority"
+-- ".. and pushes number and priority". The stack, the record and the sources are slots apart, so the order here says nothing
 unfoldable pub given : Shape → ℕ → Entry → List ℕ → List ℕ
 given shape v e s = sourceTaken shape v (e .intid .0) (sourceOf shape v (e .intid .0) s) (changed shape v (e .intid .0) (givenRecord v) (pushed shape v e s))
 
@@ -74,6 +74,15 @@ acknowledge shape v s = answered shape v s (offer shape v s)
 
 abbrev pub acknowledged : Shape → ℕ → List ℕ → List ℕ
 acknowledged shape v s = taken shape v s (offer shape v s)
+
+-- what the two cases of an answer are in document 01: the refusal's number, 0 for none, and the value
+abbrev pub refusalOf : Read → ℕ
+refusalOf (Value x) = 0
+refusalOf StackFull = 7
+
+abbrev pub valueOf : Read → ℕ
+valueOf (Value x) = x
+valueOf StackFull = 0
 
 -- words that hold a state; the vCPU is looked up only while the Distributor is on
 pub record Acknowledging (shape : Shape) (v : ℕ) (s : List ℕ) : Type 0 where

@@ -1,6 +1,6 @@
 -- An IAR read as a whole: if it hands out an interrupt, the stack is the old stack with the new entry, and no record changes but the one
 -- given; if it answers 1023 or is refused by 7, nothing changes. Assumes nothing.
-use mathlib.Core.Path.{_≡_, refl, ap, _∙_, subst}
+use mathlib.Core.Path.{_≡_, refl, ap, _∙_}
 use mathlib.Core.Bool.{Bool, true, false, cond}
 use mathlib.Core.List.{List, _∷_}
 use Prim.Native.Nat.{ℕ, _+_, _*_, _≤_, _<_}
@@ -17,9 +17,8 @@ use Rattle.select.specs.declared.Selected.the-variants.{Best, Nothing}
 use Rattle.select.specs.Select.{IsBest}
 use Rattle.select.proofs.Meaning.{best-is}
 use Rattle.service.specs.Service.{depthAt, stackAt, Served}
-use Rattle.acknowledge.specs.declared.Read.{Read}
 use Rattle.acknowledge.specs.declared.Read.the-variants.{Value, StackFull}
-use Rattle.acknowledge.specs.Acknowledge.{offer, sourceOf, given, answered, taken, acknowledge, acknowledged, Givable}
+use Rattle.acknowledge.specs.Acknowledge.{offer, sourceOf, given, answered, taken, acknowledge, acknowledged, refusalOf, valueOf, Givable}
 use Rattle.delivery.proofs.Given.{given-records, given-stack, given-stacks}
 use Rattle.acknowledge.proofs.Offers.{offer-is, offer-below}
 
@@ -53,41 +52,33 @@ module _ (shape : Shape) (v : ℕ) (s : List ℕ) (h : Served shape v s) (e : En
   acknowledged-records u m x apart = ap (recordAt shape u m) acknowledged-is ∙ given-records shape v e s givable u m x apart
 
 -- none is
-isValue : Read → Type 0
-isValue (Value x) = Unit
-isValue StackFull = ⊥
-
-valueOf : Read → ℕ
-valueOf (Value x) = x
-valueOf StackFull = 0
-
 module _ (shape : Shape) (v : ℕ) (s : List ℕ) where
   pub none-unchanged : offer shape v s ≡ Nothing → acknowledged shape v s ≡ s
   unfolding taken
   none-unchanged o = ap (taken shape v s) o
 
   -- refused by 7
-  pub full-unchanged : acknowledge shape v s ≡ StackFull → acknowledged shape v s ≡ s
-  unfolding answered taken isValue
+  pub full-unchanged : refusalOf (acknowledge shape v s) ≡ 7 → acknowledged shape v s ≡ s
+  unfolding answered taken
   full-unchanged p = go (offer shape v s) p
     where
-      full : (b : Bool) (x : ℕ) (r : List ℕ) → cond b (Value x) StackFull ≡ StackFull → cond b r s ≡ s
-      full true x r q = absurd (subst isValue q tt)
+      full : (b : Bool) (x : ℕ) (r : List ℕ) → refusalOf (cond b (Value x) StackFull) ≡ 7 → cond b r s ≡ s
+      full true x r q = absurd (omega (arith, q))
       full false x r q = refl
 
-      go : (b : Selected) → answered shape v s b ≡ StackFull → taken shape v s b ≡ s
+      go : (b : Selected) → refusalOf (answered shape v s b) ≡ 7 → taken shape v s b ≡ s
       go Nothing q = refl
       go (Best e) q = full (ltb (depthAt shape v s) 255) (e .intid .0 + 1024 * sourceOf shape v (e .intid .0) s) (given shape v e s) q
 
   -- 1023
-  pub spurious-unchanged : Limits shape → acknowledge shape v s ≡ Value 1023 → acknowledged shape v s ≡ s
-  unfolding answered taken valueOf
+  pub spurious-unchanged : Limits shape → valueOf (acknowledge shape v s) ≡ 1023 → acknowledged shape v s ≡ s
+  unfolding answered taken
   spurious-unchanged l p = go (offer shape v s) refl p
     where
-      some : (e : Entry) (b : Bool) (r : List ℕ) → e .intid .0 < shape .limit → cond b (Value (e .intid .0 + 1024 * sourceOf shape v (e .intid .0) s)) StackFull ≡ Value 1023 → cond b r s ≡ s
-      some e true r below q = let w : e .intid .0 + 1024 * sourceOf shape v (e .intid .0) s ≡ 1023 = ap valueOf q in absurd (omega (arith, w, below, l .few-numbers))
+      some : (e : Entry) (b : Bool) (r : List ℕ) → e .intid .0 < shape .limit → valueOf (cond b (Value (e .intid .0 + 1024 * sourceOf shape v (e .intid .0) s)) StackFull) ≡ 1023 → cond b r s ≡ s
+      some e true r below q = absurd (omega (arith, q, below, l .few-numbers))
       some e false r below q = refl
 
-      go : (b : Selected) → offer shape v s ≡ b → answered shape v s b ≡ Value 1023 → taken shape v s b ≡ s
+      go : (b : Selected) → offer shape v s ≡ b → valueOf (answered shape v s b) ≡ 1023 → taken shape v s b ≡ s
       go Nothing o q = refl
       go (Best e) o q = some e (ltb (depthAt shape v s) 255) (given shape v e s) (offer-below shape v s e o) q

@@ -1,10 +1,12 @@
 -- EOIR: if the number is the newest, the stack below is restored, and with EOI mode off its record deactivated; if not, nothing changes. No
 -- other record and no other stack does. Assumes nothing.
 use mathlib.Core.Path.{_≡_, refl, ap, _∙_}
-use mathlib.Core.Bool.{Bool, true, false}
+use mathlib.Core.Bool.{Bool, true, false, cond, _&&_}
 use mathlib.Core.List.{List, _∷_}
 use Prim.Native.Nat.{ℕ, _-_, _≤_, _<_}
 use native.Mathlib.Omega.{arith}
+use lib.Dec.{ltb}
+use borrow.Author.Tests.{ltb-true}
 use Rattle.word.specs.Word.{recordOf}
 use Rattle.state.specs.declared.layout.Shape.{Shape}
 use Rattle.state.specs.declared.layout.InterfaceValue.the-variants.{Depth}
@@ -15,7 +17,7 @@ use Rattle.state.proofs.Accessors.{record-exists}
 use Rattle.state.proofs.SlotKinds.{kinds-apart, record-apart, apart-record}
 use Rattle.service.specs.Service.{depthAt, stackAt, isNewest, popped, dropped, Served}
 use Rattle.service.proofs.Stacks.{stack-same, newest-some, popped-room, popped-others, popped-depth, popped-stack}
-use Rattle.end.specs.End.{eoiMode, deactivated, ended, endRetired}
+use Rattle.end.specs.End.{servedHere, eoiMode, deactivated, retired, ended, endRetired}
 use Rattle.delivery.specs.Delivery.{deactivate}
 use Rattle.delivery.proofs.Deactivation.{deactivated-others, deactivated-stacks, deactivated-record}
 
@@ -81,13 +83,25 @@ module _ (shape : Shape) (v n : ℕ) (s : List ℕ) (h : Served shape v s) where
         (record-apart u m (Interface v Depth) (λ q. omega arith))
         (record-apart u m (Stack v (depthAt shape v s - 1)) (λ q. omega arith)))
 
-    -- its own
+    -- its own, as it stood before the pop
+    old-word : n < shape .limit → wordAt shape (recordSlot v n) (popped shape v s) ≡ wordAt shape (recordSlot v n) s
+    old-word b =
+        let x : RecordThere shape v n = record { numbered = b; banked = λ c. h .exists } in
+        popped-others shape v s h some (recordSlot v n) (record-exists shape v n x)
+        (record-apart v n (Interface v Depth) (λ q. omega arith))
+        (record-apart v n (Stack v (depthAt shape v s - 1)) (λ q. omega arith))
+
     pub ended-record : eoiMode shape v s ≡ false → n < shape .limit → recordAt shape v n (ended shape v n s) ≡ deactivate v (recordAt shape v n s)
     ended-record off b =
-        let x : RecordThere shape v n = record { numbered = b; banked = λ c. h .exists } in
         ap (recordAt shape v n) (ended-deactivated off)
         ∙ deactivated-record shape v n (popped shape v s) room (h .exists) b
-        ∙ ap (λ (w : ℕ). deactivate v (recordOf w))
-        (popped-others shape v s h some (recordSlot v n) (record-exists shape v n x)
-        (record-apart v n (Interface v Depth) (λ q. omega arith))
-        (record-apart v n (Stack v (depthAt shape v s - 1)) (λ q. omega arith)))
+        ∙ ap (λ (w : ℕ). deactivate v (recordOf w)) (old-word b)
+
+    -- and so is what it retires
+    pub ended-retired : eoiMode shape v s ≡ false → endRetired shape v n s ≡ retired shape v n s
+    unfolding endRetired dropped retired
+    ended-retired off = simp (newest, off) (go (ltb n (shape .limit)) refl)
+      where
+        go : (b : Bool) → ltb n (shape .limit) ≡ b → cond (b && servedHere v (recordAt shape v n (popped shape v s))) n 1023 ≡ cond (b && servedHere v (recordAt shape v n s)) n 1023
+        go true e = ap (λ (w : ℕ). cond (servedHere v (recordOf w)) n 1023) (old-word (ltb-true n (shape .limit) e))
+        go false e = refl

@@ -19,7 +19,7 @@ use Rattle.select.specs.declared.Selected.the-variants.{Best, Nothing}
 abbrev pub offered : ℕ → ℕ → InterruptRecord → Bool
 offered v n r = ltb n 32 || eqb (maskByte (r .«cpu_target_mask») / 2 ^ v % 2) 1
 
--- ".. that are enabled, pending, not active, with priority below PMR"
+-- ".. that are enabled, pending, not active, with priority below PMR", which is `mask`
 abbrev pub eligible : ℕ → ℕ → ℕ → InterruptRecord → Bool
 eligible mask v n r = offered v n r && r .enabled && r .pending && not (r .active) && ltb (r .priority .0) mask
 
@@ -36,7 +36,7 @@ wins e Nothing = true
 wins e (Best b) = ltb (e .priority .0) (b .priority .0)
 
 abbrev pub better : Bool → Entry → Selected → Selected
-better eligible e b = cond (eligible && wins e b) (Best e) b
+better fit e b = cond (fit && wins e b) (Best e) b
 
 -- of the numbers below n
 unfoldable pub bestBelow : Shape → ℕ → List ℕ → ℕ → Selected

@@ -39,12 +39,9 @@ pushed shape v e s = withEntry shape v (depthAt shape v s) e (withInterface shap
 unfoldable pub popped : Shape → ℕ → List ℕ → List ℕ
 popped shape v s = withInterface shape v Depth (depthAt shape v s - 1) (withoutEntry shape v (depthAt shape v s - 1) s)
 
-abbrev pub droppedIf : Bool → Shape → ℕ → List ℕ → List ℕ
-droppedIf newest shape v s = cond newest (popped shape v s) s
-
 -- "pops the stack only if that number is newest"
 unfoldable pub dropped : Shape → ℕ → ℕ → List ℕ → List ℕ
-dropped shape v n s = droppedIf (isNewest n (stackAt shape v s)) shape v s
+dropped shape v n s = cond (isNewest n (stackAt shape v s)) (popped shape v s) s
 
 -- words that hold a state with this vCPU, whose stack has room for what it holds
 pub record Served (shape : Shape) (v : ℕ) (s : List ℕ) : Type 0 where

@@ -29,7 +29,8 @@ woken shape before after v = isSpurious (acknowledge shape v before) && isNumber
 unfoldable pub wakeSet : Shape → List ℕ → List ℕ → ℕ
 wakeSet shape before after = gathered 1 (λ v. bitOf (woken shape before after v)) (shape .count)
 
--- the two halves of it: before the call the vCPUs that would get 1023, after it those of them that would get a number
+-- the two halves of it: before the call the vCPUs that would get 1023 (all eight bits of 255 are asked), after it those of them that would
+-- get a number
 abbrev pub gives : Bool → Shape → List ℕ → ℕ → Bool
 gives false shape s v = isSpurious (acknowledge shape v s)
 gives true shape s v = isNumber (acknowledge shape v s)
