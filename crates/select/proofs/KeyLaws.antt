@@ -1,6 +1,6 @@
 -- The least key of all records is the best candidate's. Assumes nothing.
 use mathlib.Core.Path.{_≡_, refl, sym, ap, _∙_, subst}
-use mathlib.Core.Bool.{Bool, true, false, cond}
+use mathlib.Core.Bool.{Bool, true, false, cond, _&&_}
 use mathlib.Core.List.{List}
 use Prim.Native.Nat.{ℕ, zero, suc, _+_, _*_, _-_, _/_, _%_, _≤_, _<_}
 use native.Mathlib.Nat.{add-zero, add-suc}
@@ -17,7 +17,7 @@ use Rattle.word.specs.Word.{recordOf}
 use Rattle.word.proofs.RecordWord.{decoded-in-range}
 use Rattle.select.specs.declared.Selected.{Selected}
 use Rattle.select.specs.declared.Selected.the-variants.{Best, Nothing}
-use Rattle.select.specs.Select.{candidate, entryFor, better, bestBelow, best, Looked}
+use Rattle.select.specs.Select.{candidate, entryFor, wins, better, bestBelow, best, Looked}
 use Rattle.select.specs.Keys.{noKey, keyOf, selectedBy, keyFor, least, leastKey}
 
 -- a selection among the numbers below n
@@ -46,19 +46,11 @@ module _ (shape : Shape) (v : ℕ) (s : List ℕ) where
   bounded : (n : ℕ) → Bounded n (bestBelow shape v s n)
   unfolding bestBelow
   bounded zero = tt
-  bounded (suc n) = go (candidate shape v s n) (bestBelow shape v s n) (bounded n)
+  bounded (suc n) = go (candidate shape v s n && wins (entryFor shape v s n) (bestBelow shape v s n)) (bounded n)
     where
-      new : Bounded (suc n) (Best (entryFor shape v s n))
-      new = (omega arith, priority-byte n)
-
-      pick : (b : Bool) (x : Selected) → Bounded n x → Bounded (suc n) (cond b (Best (entryFor shape v s n)) x)
-      pick true x h = new
-      pick false x h = one-more n x h
-
-      go : (b : Bool) (x : Selected) → Bounded n x → Bounded (suc n) (better b (entryFor shape v s n) x)
-      go false x h = one-more n x h
-      go true Nothing h = new
-      go true (Best e) h = pick (ltb (recordAt shape v n s .priority .0) (e .priority .0)) (Best e) h
+      go : (b : Bool) → Bounded n (bestBelow shape v s n) → Bounded (suc n) (cond b (Best (entryFor shape v s n)) (bestBelow shape v s n))
+      go true h = (omega arith, priority-byte n)
+      go false h = one-more n (bestBelow shape v s n) h
 
   -- one number more
   key-step : (n : ℕ) (b : Bool) (x : Selected) → n < 1020 → Bounded n x

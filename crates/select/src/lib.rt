@@ -1,6 +1,8 @@
 // Selection: which interrupt a vCPU is offered. Each record is visited once, where it stands.
 ghost use mathlib.Core.Path.{_≡_};
 ghost use Prim.Native.Nat.{_<_};
+ghost use Rattle.state.specs.declared.layout.InterfaceValue.the-variants.{PriorityMask};
+ghost use Rattle.state.specs.Words.{interfaceAt};
 ghost use Rattle.select.specs.Select.{eligible, best, bothOn, numberOf, highestPending, Looked};
 ghost use Rattle.select.specs.Keys.{selectedBy, keyFor, least, leastKey, KeyRun};
 use interrupt::GicVcpuId;
@@ -25,20 +27,20 @@ pub enum Selected {
 // Above every key.
 const NO_KEY: u32 = 262144;
 
-fn is_candidate(record: InterruptRecord, vcpu: GicVcpuId, intid: IntId, mask: u32) -> bool
+fn is_candidate(record: InterruptRecord, vcpu: GicVcpuId, intid: IntId, mask: Priority) -> bool
     requires { ⌜ vcpu .0 < 8 ⌝ }
-    ensures { λ r. ⌜ r ≡ eligible mask (vcpu .0) (intid .0) «record» ⌝ }
+    ensures { λ r. ⌜ r ≡ eligible (mask .0) (vcpu .0) (intid .0) «record» ⌝ }
 {
     let targets = record.cpu_target_mask;
     let named = (mask_byte(targets) >> vcpu.0) % 2 == 1;
-    let urgent = (record.priority.0 as u32) < mask;
+    let urgent = record.priority.0 < mask.0;
     ((intid.0 < 32) | named) & record.enabled & record.pending & !record.active & urgent
 }
 
 // The priority with the number below it: the least key is the smallest priority's, then the smallest number's.
-fn key(record: InterruptRecord, vcpu: GicVcpuId, intid: IntId, mask: u32) -> u32
+fn key(record: InterruptRecord, vcpu: GicVcpuId, intid: IntId, mask: Priority) -> u32
     requires { ⌜ (vcpu .0 < 8) × (intid .0 < 1020) ⌝ }
-    ensures { λ r. ⌜ r ≡ keyFor mask (vcpu .0) (intid .0) «record» ⌝ }
+    ensures { λ r. ⌜ r ≡ keyFor (mask .0) (vcpu .0) (intid .0) «record» ⌝ }
 {
     if is_candidate(record, vcpu, intid, mask) {
         1024 * (record.priority.0 as u32) + intid.0
@@ -60,11 +62,11 @@ fn least_key(
     first: IntId,
     there: u32,
     vcpu: GicVcpuId,
-    mask: u32,
+    mask: Priority,
     start: u32,
 ) -> u32
     requires { ⌜ KeyRun (vcpu .0) (first .0) base there (now words) ⌝ }
-    ensures { λ r. ⌜ r ≡ leastKey mask (vcpu .0) (first .0) base (now (words .entry)) start there ⌝ }
+    ensures { λ r. ⌜ r ≡ leastKey (mask .0) (vcpu .0) (first .0) base (now (words .entry)) start there ⌝ }
 {
     let mut key_so_far = start;
     let mut i: u32 = 0;
@@ -94,11 +96,19 @@ fn of_key(key: u32) -> Selected
     }
 }
 
+fn v2_priority_mask(words: &[u32], shape: Shape, vcpu: GicVcpuId) -> Priority
+    requires { ⌜ Looked shape (vcpu .0) (now words) ⌝ }
+    ensures { λ r. ⌜ r .0 ≡ interfaceAt shape (vcpu .0) PriorityMask (now (words .entry)) ⌝ }
+{
+    let bits = interface_value(words, shape, vcpu, InterfaceValue::PriorityMask);
+    Priority(bits as u8)
+}
+
 pub fn highest_pending(words: &[u32], shape: Shape, vcpu: GicVcpuId) -> Selected
     requires { ⌜ Looked shape (vcpu .0) (now words) ⌝ }
     ensures { λ r. ⌜ r ≡ best shape (vcpu .0) (now (words .entry)) ⌝ }
 {
-    let mask = interface_value(words, shape, vcpu, InterfaceValue::PriorityMask);
+    let mask = v2_priority_mask(words, shape, vcpu);
     let own = record_place(shape, vcpu, IntId(0));
     let private = least_key(words, own, IntId(0), 32, vcpu, mask, NO_KEY);
     let spis = shape.spi_start();

@@ -4,8 +4,8 @@ use Rattle.select.proofs.KeyLaws.{private-inside, key-private, key-spis
 use Rattle.select.proofs.highest_pending.Statement.{statement}
 use Rattle.select.proofs.highest_pending.Tie as tie
 
-interface-value-requires : tie.Need-interface-value-requires
-interface-value-requires c κs = search needs
+v2-priority-mask-requires : tie.Need-v2-priority-mask-requires
+v2-priority-mask-requires c κs = search needs
 
 record-place-requires : tie.Need-record-place-requires
 record-place-requires c κs = search needs
@@ -28,14 +28,14 @@ of-key-requires c κs = search needs
 returns : tie.Need-returns
 returns c =
     let a = c .before .before .before .before .before .before .before .before .args in
-    rw (c .of-key .ensures, c .before .least-key2 .ensures, c .before .before .before .spi-start .ensures, c .before .before .before .before .least-key .ensures, c .before .before .before .before .before .record-place .ensures .at, c .before .before .before .before .before .before .interface-value .ensures, key-private (a .shape) (a .vcpu .0) (a .words .now), key-spis (a .shape) (a .vcpu .0) (a .words .now) (c .before .before .before .before .before .before .before .before .pre .state .limits))
+    rw (c .of-key .ensures, c .before .least-key2 .ensures, c .before .before .before .spi-start .ensures, c .before .before .before .before .least-key .ensures, c .before .before .before .before .before .record-place .ensures .at, c .before .before .before .before .before .before .v2-priority-mask .ensures, key-private (a .shape) (a .vcpu .0) (a .words .now), key-spis (a .shape) (a .vcpu .0) (a .words .now) (c .before .before .before .before .before .before .before .before .pre .state .limits))
     (selected-best (a .shape) (a .vcpu .0) (a .words .now) (c .before .before .before .before .before .before .before .before .pre .state .limits))
 
 pub highest-pending-spec : {M : Type 1} → statement M
 highest-pending-spec =
     tie.close
     (tie.spec
-    interface-value-requires
+    v2-priority-mask-requires
     record-place-requires
     least-key-requires
     spi-start-requires

@@ -12,12 +12,8 @@ cast-named c = search needs
 shr-named : tie.Need-shr-named
 shr-named c = search needs
 
-cast-urgent : tie.Need-cast-urgent
-cast-urgent c = search needs
-
 returns : tie.Need-returns
-returns c = simp (c .before .before .before .before .before .before .mask-byte .ensures)
+returns c = simp (c .before .before .before .before .before .before .before .mask-byte .ensures)
 
 pub is-candidate-spec : {M : Type 1} → statement M
-is-candidate-spec =
-    tie.close (tie.spec mask-byte-requires cast-named shr-named cast-urgent returns)
+is-candidate-spec = tie.close (tie.spec mask-byte-requires cast-named shr-named returns)

@@ -9,7 +9,7 @@ use Rattle.select.proofs.least_key.Statement.{statement}
 use Rattle.select.proofs.least_key.Tie as tie
 
 abbrev Inv-loop : tie.InvT-loop
-Inv-loop words base first there vcpu mask start key-so-far₀ i₀ key-so-far i = (i ≤ there) × (key-so-far ≡ leastKey mask (vcpu .0) (first .0) base words start i)
+Inv-loop words base first there vcpu mask start key-so-far₀ i₀ key-so-far i = (i ≤ there) × (key-so-far ≡ leastKey (mask .0) (vcpu .0) (first .0) base words start i)
 
 abbrev μ-loop : tie.MeasureT-loop
 μ-loop words base first there vcpu mask start key-so-far₀ i₀ key-so-far i = there - i
