@@ -6,7 +6,7 @@ use mathlib.Core.List.{List, _∷_}
 use Prim.Native.Nat.{ℕ, _+_, _*_, _≤_, _<_}
 use native.Mathlib.Omega.{arith}
 use lib.Dec.{ltb}
-use borrow.Author.Tests.{lt-ltb}
+use borrow.Author.Tests.{lt-ltb, ltb-true}
 use Rattle.word.proofs.RecordWord.{decoded-in-range}
 use Rattle.state.specs.declared.layout.Shape.{Shape}
 use Rattle.state.specs.declared.words.Entry.{Entry}
@@ -82,3 +82,17 @@ module _ (shape : Shape) (v : ℕ) (s : List ℕ) where
       go : (b : Selected) → offer shape v s ≡ b → valueOf (answered shape v s b) ≡ 1023 → taken shape v s b ≡ s
       go Nothing o q = refl
       go (Best e) o q = some e (ltb (depthAt shape v s) 255) (given shape v e s) (offer-below shape v s e o) q
+
+-- what stays true of the state if nothing changes, and if an interrupt is given, stays true under an IAR read
+module _ (shape : Shape) (v : ℕ) (s : List ℕ) (h : Served shape v s) (P : List ℕ → Type 0) (same : P s) (give : (e : Entry) → offer shape v s ≡ Best e → Givable shape v e s → P (given shape v e s)) where
+  pub acknowledged-cases : P (acknowledged shape v s)
+  unfolding taken
+  acknowledged-cases = go (offer shape v s) refl
+    where
+      some : (b : Bool) (r : List ℕ) → (b ≡ true → P r) → P (cond b r s)
+      some true r f = f refl
+      some false r f = same
+
+      go : (b : Selected) → offer shape v s ≡ b → P (taken shape v s b)
+      go Nothing p = same
+      go (Best e) p = some (ltb (depthAt shape v s) 255) (given shape v e s) (λ q. give e p (givable shape v s h e p (ltb-true (depthAt shape v s) 255 q)))

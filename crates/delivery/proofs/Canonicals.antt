@@ -23,18 +23,17 @@ use Rattle.state.specs.Words.{wordAt, recordSlot, RecordThere, recordAt, change
 use Rattle.state.proofs.Accessors.{put-room, put-same, put-other, record-exists}
 use Rattle.state.proofs.Canonical.{record-canonical, sources-canonical, interface-canonical, entry-canonical, cleared-canonical, depth-canonical}
 use Rattle.sgi.specs.Sgi.{mergedSources}
-use Rattle.select.specs.declared.Selected.{Selected}
-use Rattle.select.specs.declared.Selected.the-variants.{Best, Nothing}
 use Rattle.select.proofs.Meaning.{best-is}
-use Rattle.service.specs.Service.{depthAt, stackAt, isNewest, pushed, popped, Served, Sound}
+use Rattle.service.specs.Service.{depthAt, pushed, popped, Served, Sound}
 use Rattle.service.proofs.Soundness.{sound-served}
-use Rattle.service.proofs.Stacks.{newest-some, pushed-room, popped-served}
-use Rattle.acknowledge.specs.Acknowledge.{offer, sourceOf, pendIfLeft, withoutSource, sourceTaken, givenRecord, given, taken, acknowledged, Givable}
-use Rattle.acknowledge.proofs.Offers.{offer-is, offer-below}
+use Rattle.service.proofs.Stacks.{pushed-room, popped-served}
+use Rattle.acknowledge.specs.Acknowledge.{sourceOf, pendIfLeft, withoutSource, sourceTaken, givenRecord, given, acknowledged, Givable}
+use Rattle.acknowledge.proofs.Offers.{offer-is}
 use Rattle.end.specs.End.{deactivated, ended}
 use Rattle.cpu_interface.specs.CpuInterface.{afterRead, writeRegister, readLooksUp, writeLooksUp}
+use Rattle.delivery.proofs.Answers.{acknowledged-cases}
 use Rattle.delivery.proofs.Deactivation.{deactivated-cases}
-use Rattle.delivery.proofs.Ended.{ended-unchanged, ended-cases}
+use Rattle.delivery.proofs.Ended.{ended-keeps}
 use Rattle.delivery.proofs.Registers.{read-cases, write-cases}
 use Rattle.delivery.proofs.Given.{given-in-range, pending-in-range}
 
@@ -111,30 +110,16 @@ module _ (shape : Shape) (v : ℕ) (s : List ℕ) (h : Served shape v s) (c : Ca
       (changed-canonical shape v n there (givenRecord v) (λ r i. given-in-range v r (omega (arith, few, here)) i) (pushed shape v e s) room (pushed-canonical shape v s h c e (g .room) byte))
 
   pub acknowledged-canonical : Canonical shape (acknowledged shape v s)
-  unfolding taken
-  acknowledged-canonical = go (offer shape v s) refl
-    where
-      some : (b : Bool) (r : List ℕ) → (b ≡ true → Canonical shape r) → Canonical shape (cond b r s)
-      some true r f = f refl
-      some false r f = c
-
-      go : (b : Selected) → offer shape v s ≡ b → Canonical shape (taken shape v s b)
-      go Nothing p = c
-      go (Best e) p = some (ltb (depthAt shape v s) 255) (given shape v e s)
-          (λ q.
-          let g : Givable shape v e s = record { served = h; room = ltb-true (depthAt shape v s) 255 q; numbered = offer-below shape v s e p } in
-          let byte = decoded-in-range (wordAt shape (recordSlot v (e .intid .0)) s) .priority-byte in
-          given-canonical e g (omega (arith, byte, best-is shape v s e (offer-is shape v s e p .best-one) .priority)))
+  acknowledged-canonical =
+      acknowledged-cases shape v s h (Canonical shape) c
+      (λ e p g.
+      let byte = decoded-in-range (wordAt shape (recordSlot v (e .intid .0)) s) .priority-byte in
+      given-canonical e g (omega (arith, byte, best-is shape v s e (offer-is shape v s e p .best-one) .priority)))
 
   pub ended-canonical : (n : ℕ) → Canonical shape (ended shape v n s)
-  ended-canonical n = go (isNewest n (stackAt shape v s)) refl
-    where
-      go : (b : Bool) → isNewest n (stackAt shape v s) ≡ b → Canonical shape (ended shape v n s)
-      go true p =
-          let some = newest-some shape v s n p in
-          let pop = popped-canonical shape v s h c some in
-          ended-cases shape v n s h p (Canonical shape) pop (deactivated-canonical shape v (popped shape v s) (popped-served shape v s h some) pop n)
-      go false p = rw (ended-unchanged shape v n s h p) c
+  ended-canonical n =
+      ended-keeps shape v n s h (Canonical shape) c (popped-canonical shape v s h c)
+      (λ some pop. deactivated-canonical shape v (popped shape v s) (popped-served shape v s h some) pop n)
 
 -- every read and write, by a vCPU that exists where it is looked up
 module _ (shape : Shape) (v : ℕ) (s : List ℕ) (h : Sound shape s) (c : Canonical shape s) where

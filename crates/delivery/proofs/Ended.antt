@@ -46,7 +46,7 @@ module _ (shape : Shape) (v n : ℕ) (s : List ℕ) (h : Served shape v s) where
 
     -- either way
     module _ (P : List ℕ → Type 0) (pop : P (popped shape v s)) (off : P (deactivated shape v n (popped shape v s))) where
-      pub ended-cases : P (ended shape v n s)
+      ended-cases : P (ended shape v n s)
       ended-cases = go (eoiMode shape v s) refl
         where
           go : (b : Bool) → eoiMode shape v s ≡ b → P (ended shape v n s)
@@ -105,3 +105,11 @@ module _ (shape : Shape) (v n : ℕ) (s : List ℕ) (h : Served shape v s) where
         go : (b : Bool) → ltb n (shape .limit) ≡ b → cond (b && servedHere v (recordAt shape v n (popped shape v s))) n 1023 ≡ cond (b && servedHere v (recordAt shape v n s)) n 1023
         go true e = ap (λ (w : ℕ). cond (servedHere v (recordOf w)) n 1023) (old-word (ltb-true n (shape .limit) e))
         go false e = refl
+
+  -- what stays true if nothing changes, under a pop, and under Deactivate after it, stays true under EOIR
+  pub ended-keeps : (P : List ℕ → Type 0) → P s → (0 < depthAt shape v s → P (popped shape v s)) → (0 < depthAt shape v s → P (popped shape v s) → P (deactivated shape v n (popped shape v s))) → P (ended shape v n s)
+  ended-keeps P same pop off = go (isNewest n (stackAt shape v s)) refl
+    where
+      go : (b : Bool) → isNewest n (stackAt shape v s) ≡ b → P (ended shape v n s)
+      go true p = let some = newest-some shape v s n p in ended-cases p P (pop some) (off some (pop some))
+      go false p = rw (ended-unchanged p) same

@@ -1,11 +1,9 @@
 -- No access to a CPU interface makes a state one that refusal 6 is for: every depth stays at most 255. Assumes nothing.
-use mathlib.Core.Path.{_≡_, refl, sym, subst}
-use mathlib.Core.Bool.{Bool, true, false, cond}
+use mathlib.Core.Path.{_≡_, sym, subst}
+use mathlib.Core.Bool.{true}
 use mathlib.Core.List.{List}
 use Prim.Native.Nat.{ℕ, _-_, _≤_, _<_}
 use native.Mathlib.Omega.{arith}
-use lib.Dec.{ltb}
-use borrow.Author.Tests.{ltb-true}
 use Rattle.register.specs.declared.«cpu_interface».CpuInterfaceRegister.{CpuInterfaceRegister}
 use Rattle.word.proofs.Cases.{same-or}
 use Rattle.state.specs.declared.layout.Shape.{Shape}
@@ -16,17 +14,15 @@ use Rattle.state.specs.Words.{kept, withInterface, enabledAt}
 use Rattle.state.proofs.Accessors.{put-room, put-other}
 use Rattle.state.proofs.Canonical.{OffStack}
 use Rattle.state.proofs.SlotKinds.{kinds-apart, apart-record}
-use Rattle.select.specs.declared.Selected.{Selected}
-use Rattle.select.specs.declared.Selected.the-variants.{Best, Nothing}
-use Rattle.service.specs.Service.{depthAt, stackAt, isNewest, popped, Served, Sound}
+use Rattle.service.specs.Service.{depthAt, popped, Served, Sound}
 use Rattle.service.proofs.Soundness.{sound-served}
-use Rattle.service.proofs.Stacks.{newest-some, popped-room, popped-others, popped-depth}
-use Rattle.acknowledge.specs.Acknowledge.{offer, taken, given, acknowledged, Givable}
-use Rattle.acknowledge.proofs.Offers.{offer-below}
+use Rattle.service.proofs.Stacks.{popped-room, popped-others, popped-depth}
+use Rattle.acknowledge.specs.Acknowledge.{acknowledged}
 use Rattle.end.specs.End.{deactivated, ended}
 use Rattle.cpu_interface.specs.CpuInterface.{afterRead, writeRegister, readLooksUp, writeLooksUp}
+use Rattle.delivery.proofs.Answers.{acknowledged-cases}
 use Rattle.delivery.proofs.Deactivation.{deactivated-room, deactivated-others}
-use Rattle.delivery.proofs.Ended.{ended-unchanged, ended-cases}
+use Rattle.delivery.proofs.Ended.{ended-keeps}
 use Rattle.delivery.proofs.Registers.{read-cases, write-cases}
 use Rattle.delivery.proofs.Given.{given-room, given-depth, given-depths}
 
@@ -35,23 +31,12 @@ module _ (shape : Shape) (v : ℕ) (s : List ℕ) (h : Sound shape s) (exists : 
   served = sound-served v h exists
 
   pub acknowledged-sound : Sound shape (acknowledged shape v s)
-  unfolding taken
-  acknowledged-sound = go (offer shape v s) refl
-    where
-      some : (b : Bool) (r : List ℕ) → (b ≡ true → Sound shape r) → Sound shape (cond b r s)
-      some true r f = f refl
-      some false r f = h
-
-      go : (b : Selected) → offer shape v s ≡ b → Sound shape (taken shape v s b)
-      go Nothing p = h
-      go (Best e) p = some (ltb (depthAt shape v s) 255) (given shape v e s)
-          (λ q.
-          let room : depthAt shape v s < 255 = ltb-true (depthAt shape v s) 255 q in
-          let g : Givable shape v e s = record { served = served; room = room; numbered = offer-below shape v s e p } in
-          record {
-            state = given-room shape v e s g;
-            depths = λ u x. same-or u v (λ w. rw (w, given-depth shape v e s g) (omega arith)) (λ d. rw (given-depths shape v e s g u x d) (h .depths u x));
-          })
+  acknowledged-sound =
+      acknowledged-cases shape v s served (Sound shape) h
+      (λ e p g. let room : depthAt shape v s < 255 = g .room in record {
+        state = given-room shape v e s g;
+        depths = λ u x. same-or u v (λ w. rw (w, given-depth shape v e s g) (omega arith)) (λ d. rw (given-depths shape v e s g u x d) (h .depths u x));
+      })
 
   popped-sound : 0 < depthAt shape v s → Sound shape (popped shape v s)
   popped-sound some = record {
@@ -68,13 +53,7 @@ module _ (shape : Shape) (v : ℕ) (s : List ℕ) (h : Sound shape s) (exists : 
   }
 
   pub ended-sound : (n : ℕ) → Sound shape (ended shape v n s)
-  ended-sound n = go (isNewest n (stackAt shape v s)) refl
-    where
-      go : (b : Bool) → isNewest n (stackAt shape v s) ≡ b → Sound shape (ended shape v n s)
-      go true p =
-          let pop = popped-sound (newest-some shape v s n p) in
-          ended-cases shape v n s served p (Sound shape) pop (deactivated-sound n (popped shape v s) pop)
-      go false p = rw (ended-unchanged shape v n s served p) h
+  ended-sound n = ended-keeps shape v n s served (Sound shape) h popped-sound (λ some pop. deactivated-sound n (popped shape v s) pop)
 
   -- a value that is not the depth
   interface-sound : (k : InterfaceValue) (x : ℕ) → OffStack (Interface v k) → Sound shape (withInterface shape v k x s)
