@@ -127,7 +127,7 @@ fn mark_inflight(words: &mut [u32], shape: Shape, vcpu: GicVcpuId, intid: IntId)
     put_record(words, shape, vcpu, intid, given);
 }
 
-// The source is read first; after that the order does not count, for each call has slots of its own.
+// The source is taken last: it may pend the record again, which is marked before.
 fn give(words: &mut [u32], shape: Shape, vcpu: GicVcpuId, entry: Entry) -> u32
     requires { ⌜ Givable shape (vcpu .0) entry (now words) ⌝ }
     ensures { λ r. ⌜ (r ≡ entry .intid .0 + 1024 * sourceOf shape (vcpu .0) (entry .intid .0) (now (words .entry))) × (now (words .exit) ≡ given shape (vcpu .0) entry (now (words .entry))) ⌝ }
