@@ -15,7 +15,6 @@ enum-known-entry c = search needs
 accept-requires : tie.Need-accept-requires
 accept-requires c κs = (c .before .before .before .before .before .before .before .pre, offer-below (c .before .before .before .before .before .before .before .args .shape) (c .before .before .before .before .before .before .before .args .vcpu .0) (c .before .before .before .before .before .before .before .args .words .now) _ (sym (c .before .before .before .before .offer .ensures) ∙ c .before .before .entry .given .1))
 
--- /work/main/target/rlib/interrupt.rlib/interface/lang/src/types.rt:8:29
 enum-told : tie.Need-enum-told
 enum-told c = search needs
 
