@@ -1,0 +1,4 @@
+pub mod Request
+pub mod Line
+pub mod Reading
+pub mod Text
