@@ -2,3 +2,4 @@
 pub mod Forms
 pub mod Digits
 pub mod Fields
+pub mod Puts

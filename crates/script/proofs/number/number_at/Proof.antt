@@ -23,7 +23,7 @@ ended-requires : tie.Need-ended-requires Inv-loop μ-loop
 ended-requires c κs = search needs
 
 returns : tie.Need-returns Inv-loop μ-loop
-returns c = 
+returns c =
     let at-i = c .before .before .before .before .loop in
     let a = c .before .before .before .before .before .before .args in
     c .ended .ensures ∙ number-ended (a .line .now) (a .at) (at-i .value) (at-i .i) (sym (at-i .inv .3) ∙ at-space (a .line .now) (at-i .value) (at-i .i) (c .before .before .before .loop-test .taken) (c .before .if1 .taken) (at-i .inv .2))
@@ -38,7 +38,7 @@ enum-told : tie.Need-enum-told Inv-loop μ-loop
 enum-told c = search needs
 
 returns-2 : tie.Need-returns-2 Inv-loop μ-loop
-returns-2 c = 
+returns-2 c =
     let at-i = c .before .before .before .before .before .before .loop in
     let a = c .before .before .before .before .before .before .before .before .args in
     number-none (a .line .now) (a .at) (sym (at-i .inv .3) ∙ at-byte (a .line .now) (at-i .value) (at-i .i) (c .before .before .before .before .before .loop-test .taken) (c .before .before .before .if1 .left) ∙ simp (← c .before .before .more-digits .ensures, c .enum-told .given .1))
@@ -50,7 +50,7 @@ loop-less : tie.Need-loop-less Inv-loop μ-loop
 loop-less c = search needs
 
 loop-again : tie.Need-loop-again Inv-loop μ-loop
-loop-again c = 
+loop-again c =
     let at-i = c .before .before .before .before .before .before .before .loop in
     let a = c .before .before .before .before .before .before .before .before .before .args in
     let digit = sym (c .before .before .before .more-digits .ensures) ∙ c .before .more .given .1 in
@@ -60,7 +60,7 @@ ended-requires-2 : tie.Need-ended-requires-2 Inv-loop μ-loop
 ended-requires-2 c κs = search needs
 
 returns-3 : tie.Need-returns-3 Inv-loop μ-loop
-returns-3 c = 
+returns-3 c =
     let at-i = c .before .before .loop in
     let a = c .before .before .before .before .args in
     c .ended2 .ensures ∙ number-ended (a .line .now) (a .at) (at-i .value) (at-i .i) (sym (at-i .inv .3) ∙ at-end (a .line .now) (at-i .value) (at-i .i) (c .before .loop-test .left) (at-i .inv .2))

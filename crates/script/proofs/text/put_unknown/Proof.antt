@@ -1,32 +1,28 @@
+-- `script::put_unknown` meets its contract. Assumes nothing.
+use Prim.Native.Nat.{_+_}
+use lib.ListN.{set, length-set}
+use Rattle.script.proofs.Puts.{put-then, put-one}
 use borrow.Author.Needs.{needs}
 use Rattle.script.proofs.text.put_unknown.Statement.{statement}
 use Rattle.script.proofs.text.put_unknown.Tie as tie
-use Rattle.script.proofs.text.put_unknown.Reads as reads
-use Rattle.script.proofs.text.put_unknown.Lts as lts
 
--- src/text.rt:60:5
 slice-write-out : tie.Need-slice-write-out
 slice-write-out c = search needs
 
--- src/text.rt:61:15
 add-end : tie.Need-add-end
 add-end c = search needs
 
--- src/text.rt:62:5
 slice-write-out-2 : tie.Need-slice-write-out-2
-slice-write-out-2 c = ?
+slice-write-out-2 c = rw length-set (search needs)
 
--- src/text.rt:63:5
 add-result : tie.Need-add-result
 add-result c = search needs
 
--- src/text.rt:56:1
 same-length : tie.Need-same-length
 same-length c = search needs
 
--- src/text.rt:56:1
 returns : tie.Need-returns
-returns c = ?
+returns c = put-then (put-one 63 (c .args .out .now) (c .args .at)) (put-one 10 (set (c .args .out .now) (c .args .at) 63) (c .args .at + 1))
 
 pub put-unknown-spec : {M : Type 1} → statement M
 put-unknown-spec =
