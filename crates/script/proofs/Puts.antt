@@ -17,17 +17,22 @@ sets-append : (x y s : List ℕ) (i : ℕ) → sets (sets s i x) (i + length x) 
 sets-append [] y s i = rw add-zero
 sets-append (a ∷ x) y s i = let e : i + suc (length x) ≡ suc i + length x = omega arith in rw e (sets-append x y (set s i a) (suc i))
 
+pub put-length : {x s s' : List ℕ} {at end : ℕ} → Put x at s s' end → length s' ≡ length s
+put-length {x} {s} {s'} {at} p = ap length (p .bytes) ∙ length-sets s at x
+
+-- and ends in the bytes
+pub put-inside : {x s s' : List ℕ} {at end : ℕ} → Put x at s s' end → end ≤ length s
+put-inside p = let a = p .past in let b = p .fits in omega arith
+
 pub put-then : {x y s s' s'' : List ℕ} {at end end' : ℕ} → Put x at s s' end → Put y end s' s'' end' → Put (x ++ y) at s s'' end'
 put-then {x} {y} {s} {s'} {s''} {at} {end} {end'} p q = record {
+  fits = let a = p .past in let b = q .fits in let same = put-length p in rw length-append (omega arith);
   bytes = q .bytes ∙ rw (p .bytes, p .past) (sets-append x y s at);
   past = let a = p .past in let b = q .past in rw length-append (omega arith);
 }
 
-pub put-one : (b : ℕ) (s : List ℕ) (at : ℕ) → Put (b ∷ []) at s (set s at b) (at + 1)
-put-one b s at = record { bytes = refl; past = refl }
-
-pub put-length : {x s s' : List ℕ} {at end : ℕ} → Put x at s s' end → length s' ≡ length s
-put-length {x} {s} {s'} {at} p = ap length (p .bytes) ∙ length-sets s at x
+pub put-one : (b : ℕ) (s : List ℕ) (at : ℕ) → at < length s → Put (b ∷ []) at s (set s at b) (at + 1)
+put-one b s at h = record { fits = omega arith; bytes = refl; past = refl }
 
 -- a tenth of a number has a digit less
 tenth : (n k : ℕ) → n < 10 ^ suc k → n / 10 < 10 ^ k

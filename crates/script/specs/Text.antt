@@ -3,7 +3,7 @@
 use mathlib.Core.Bool.{cond}
 use mathlib.Core.List.{List, [], _∷_, _++_}
 use mathlib.Core.Path.{_≡_}
-use Prim.Native.Nat.{ℕ, zero, suc, _+_, _/_, _%_}
+use Prim.Native.Nat.{ℕ, zero, suc, _+_, _/_, _%_, _≤_}
 use lib.Dec.{ltb}
 use lib.ListN.{length}
 use lib.Seq.{sets}
@@ -26,7 +26,8 @@ answerText refusal value wake retired =
 abbrev pub unknownText : List ℕ
 unknownText = 63 ∷ 10 ∷ []
 
--- the text stands in the bytes from `at` up, and nothing else changed
+-- the whole text stands in the bytes from `at` up, and nothing else changed
 pub record Put (text : List ℕ) (at : ℕ) (before after : List ℕ) (end : ℕ) : Type 0 where
+  pub fits : at + length text ≤ length before
   pub bytes : after ≡ sets before at text
   pub past : end ≡ at + length text

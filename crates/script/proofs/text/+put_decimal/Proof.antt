@@ -70,7 +70,7 @@ put-decimal-returns : (t : ℕ) → put-decimal-lts.Need-returns (
   put-decimal-below t,
   put-decimal.Post,
 ) (put-decimal-at t) put-decimal.Post
-put-decimal-returns t c = rw (decimal-short (c .before .before .before .args .n) (c .before .if1 .taken), c .digit .ensures) (put-one (48 + c .before .before .before .args .n) (c .before .before .before .args .out .now) (c .before .before .before .args .at))
+put-decimal-returns t c = rw (decimal-short (c .before .before .before .args .n) (c .before .if1 .taken), c .digit .ensures) (put-one (48 + c .before .before .before .args .n) (c .before .before .before .args .out .now) (c .before .before .before .args .at) (put-decimal-slice-write-out t c))
 
 put-decimal-put-decimal-requires : (t : ℕ) → put-decimal-lts.Need-put-decimal-requires (
   digit-reads.Asked,
@@ -132,7 +132,7 @@ put-decimal-returns-2 : (t : ℕ) → put-decimal-lts.Need-returns-2 (
   put-decimal-below t,
   put-decimal.Post,
 ) (put-decimal-at t) put-decimal.Post
-put-decimal-returns-2 t c = rw (decimal-long (c .before .before .before .before .before .before .before .args .n) (c .before .before .before .before .before .if1 .left) (omega arith)) (put-then (c .before .before .before .put-decimal .ensures) (rw (c .digit2 .ensures) (put-one (48 + c .before .before .before .before .before .before .before .args .n % 10) (c .before .before .before .put-decimal .last .0) (c .before .before .before .put-decimal .result))))
+put-decimal-returns-2 t c = rw (decimal-long (c .before .before .before .before .before .before .before .args .n) (c .before .before .before .before .before .if1 .left) (omega arith)) (put-then (c .before .before .before .put-decimal .ensures) (rw (c .digit2 .ensures) (put-one (48 + c .before .before .before .before .before .before .before .args .n % 10) (c .before .before .before .put-decimal .last .0) (c .before .before .before .put-decimal .result) (put-decimal-slice-write-out-2 t c))))
 
 pub +put-decimal-spec : {M : Type 1} → statement M
 +put-decimal-spec = close μ-put-decimal λ t. put-decimal-lts.spec (

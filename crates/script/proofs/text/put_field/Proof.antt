@@ -17,7 +17,7 @@ same-length : tie.Need-same-length
 same-length c = search needs
 
 returns : tie.Need-returns
-returns c = put-then (c .before .before .put-decimal .ensures) (put-one (c .before .before .before .before .before .args .mark) (c .before .before .put-decimal .last .0) (c .before .before .put-decimal .result))
+returns c = put-then (c .before .before .put-decimal .ensures) (put-one (c .before .before .before .before .before .args .mark) (c .before .before .put-decimal .last .0) (c .before .before .put-decimal .result) (slice-write-out c))
 
 pub put-field-spec : {M : Type 1} → statement M
 put-field-spec =

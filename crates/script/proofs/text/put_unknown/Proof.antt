@@ -22,7 +22,7 @@ same-length : tie.Need-same-length
 same-length c = search needs
 
 returns : tie.Need-returns
-returns c = put-then (put-one 63 (c .args .out .now) (c .args .at)) (put-one 10 (set (c .args .out .now) (c .args .at) 63) (c .args .at + 1))
+returns c = put-then (put-one 63 (c .args .out .now) (c .args .at) (slice-write-out c)) (put-one 10 (set (c .args .out .now) (c .args .at) 63) (c .args .at + 1) (slice-write-out-2 c))
 
 pub put-unknown-spec : {M : Type 1} → statement M
 put-unknown-spec =

@@ -1,0 +1,11 @@
+-- The text of an answer is that of the call's outcome. Assumes nothing.
+use mathlib.Core.Path.{_≡_, refl, subst}
+use mathlib.Core.List.{List}
+use Prim.Native.Nat.{ℕ}
+use Rattle.controller.specs.declared.answer.Answer.{Answer}
+use Rattle.controller.specs.Answer.{Outcome, outcome}
+use Rattle.script.specs.Text.{Put}
+use Rattle.runner.specs.Runner.{answered, textOf, Prints}
+
+pub prints : (a : Answer) (s' : List ℕ) {o : Outcome} {at end : ℕ} {out out' : List ℕ} → outcome a s' ≡ o → Put (textOf a) at out out' end → Prints (answered o) at s' out out' end
+prints a s' {o} {at} {end} {out} {out'} e p = subst (λ (x : Outcome). Prints (answered x) at s' out out' end) e (record { state = refl; put = p })

@@ -1,0 +1,89 @@
+-- What the runner prints: document 01, "The runner's lines". The text is a function of the bytes read and of the words that it starts from.
+use mathlib.Core.Bool.{cond}
+use mathlib.Core.List.{List, [], _∷_, _++_}
+use mathlib.Core.Logic.{_⊎_}
+use mathlib.Core.Path.{_≡_}
+use Prim.Native.Nat.{ℕ, _+_, _≤_, _<_}
+use lib.Dec.{eqb, ltb}
+use lib.ListN.{length, take}
+use lib.Seq.{slice}
+use Rattle.controller.specs.declared.answer.Answer.{Answer}
+use Rattle.controller.specs.Answer.{Outcome, refusalIn, valueIn, wakeIn, retiredIn}
+use Rattle.controller.specs.CpuInterfaceFrame.{readV2CpuInterface, writeV2CpuInterface}
+use Rattle.controller.specs.DistributorFrame.{readV2Distributor, writeV2Distributor}
+use Rattle.controller.specs.Input.{setLevel, pulse}
+use Rattle.controller.specs.Start.{setup}
+use Rattle.script.specs.declared.request.Request.{Request}
+use Rattle.script.specs.declared.request.Request.the-variants.{Setup, ReadDistributor, WriteDistributor, ReadCpuInterface, WriteCpuInterface, SetLevel, Pulse, Unknown}
+use Rattle.script.specs.Line.{requestOf}
+use Rattle.script.specs.Text.{answerText, unknownText, Put}
+
+-- a text, and the words after it
+pub record Printed : Type 0 where
+  pub text : List ℕ
+  pub state : List ℕ
+
+-- "It prints refusal, value, wake set and retired number"
+abbrev pub answered : Outcome → Printed
+answered o = record { text = answerText (o .refusal) (o .value) (o .wake) (o .retired); state = o .state }
+
+abbrev pub textOf : Answer → List ℕ
+textOf a = answerText (refusalIn a) (valueIn a) (wakeIn a) (retiredIn a)
+
+-- the call of each form; "A line of any other form prints `?`"
+unfoldable pub called : Request → List ℕ → Printed
+called (Setup n) s = answered (setup (n .count) (n .limit) s)
+called (ReadDistributor d) s = answered (readV2Distributor (d .vcpu .0) (d .offset) (d .width) s)
+called (WriteDistributor d) s = answered (writeV2Distributor (d .vcpu .0) (d .offset) (d .width) (d .value) s)
+called (ReadCpuInterface c) s = answered (readV2CpuInterface (c .vcpu .0) (c .offset) (c .width) s)
+called (WriteCpuInterface c) s = answered (writeV2CpuInterface (c .vcpu .0) (c .offset) (c .width) (c .value) s)
+called (SetLevel l) s = answered (setLevel (l .vcpu .0) (l .number) (l .asserted) s)
+called (Pulse p) s = answered (pulse (p .vcpu .0) (p .number) s)
+called Unknown s = record { text = unknownText; state = s }
+
+unfoldable pub lineAnswer : List ℕ → List ℕ → Printed
+lineAnswer line s = called (requestOf line) s
+
+pub record Prints (p : Printed) (at : ℕ) (words' out out' : List ℕ) (end : ℕ) : Type 0 where
+  pub state : words' ≡ p .state
+  pub put : Put (p .text) at out out' end
+
+-- a run over some bytes: what is printed, the line that has begun, and the words
+pub record Run : Type 0 where
+  pub text : List ℕ
+  pub line : List ℕ
+  pub state : List ℕ
+
+-- of a line 81 bytes are kept: that it has more than 80 is all that counts then
+abbrev pub kept : List ℕ → ℕ → List ℕ
+kept line b = cond (ltb (length line) 81) (line ++ b ∷ []) line
+
+abbrev pub after : List ℕ → Run → Run
+after text run = record { text = text ++ run .text; line = run .line; state = run .state }
+
+-- the bytes, after a line that has begun; 10 is a newline
+unfoldable pub ran : List ℕ → List ℕ → List ℕ → Run
+ran [] line s = record { text = []; line = line; state = s }
+ran (b ∷ bs) line s =
+    cond (eqb b 10) (after (lineAnswer line s .text) (ran bs [] (lineAnswer line s .state))) (ran bs (kept line b) s)
+
+-- a line that no newline ends is one, unless nothing follows the last newline
+unfoldable pub ended : Run → List ℕ
+ended run = cond (ltb 0 (length (run .line))) (run .text ++ lineAnswer (run .line) (run .state) .text) (run .text)
+
+-- what the program prints for its whole input, from words s
+unfoldable pub printedFor : List ℕ → List ℕ → List ℕ
+printedFor input s = ended (ran input [] s)
+
+-- room for a line and for an answer
+pub record Ready (n : ℕ) (line : List ℕ) (at : ℕ) (out : List ℕ) : Type 0 where
+  pub begun : n ≤ 81
+  pub lineRoom : 81 ≤ length line
+  pub room : at + 30 ≤ length out
+
+-- the bytes were run: the line's first n bytes are the line that had begun, and the text stands in `out` from `at` up
+pub record Ran (bytes : List ℕ) (n : ℕ) (line words : List ℕ) (at : ℕ) (out : List ℕ) (n' : ℕ) (line' words' : List ℕ) (at' : ℕ) (out' : List ℕ) : Type 0 where
+  pub within : n' ≤ 81
+  pub partial : take n' line' ≡ ran bytes (take n line) words .line
+  pub state : words' ≡ ran bytes (take n line) words .state
+  pub put : Put (ran bytes (take n line) words .text) at out out' at'
