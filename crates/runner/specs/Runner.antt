@@ -17,6 +17,7 @@ use Rattle.script.specs.declared.request.Request.{Request}
 use Rattle.script.specs.declared.request.Request.the-variants.{Setup, ReadDistributor, WriteDistributor, ReadCpuInterface, WriteCpuInterface, SetLevel, Pulse, Unknown}
 use Rattle.script.specs.Line.{requestOf}
 use Rattle.script.specs.Text.{answerText, unknownText, Put}
+use Rattle.runner.specs.declared.input.Progress.{Progress}
 
 -- a text, and the words after it
 pub record Printed : Type 0 where
@@ -75,15 +76,26 @@ ended run = cond (ltb 0 (length (run .line))) (run .text ++ lineAnswer (run .lin
 unfoldable pub printedFor : List ℕ → List ℕ → List ℕ
 printedFor input s = ended (ran input [] s)
 
--- room for a line and for an answer
-pub record Ready (n : ℕ) (line : List ℕ) (at : ℕ) (out : List ℕ) : Type 0 where
-  pub begun : n ≤ 81
+-- bytes for a line, n of which are taken
+pub record Begun (n : ℕ) (line : List ℕ) : Type 0 where
+  pub some : n ≤ 81
   pub lineRoom : 81 ≤ length line
+
+-- and room for an answer
+pub record Ready (n : ℕ) (line : List ℕ) (at : ℕ) (out : List ℕ) : Type 0 where
+  pub begun : Begun n line
   pub room : at + 30 ≤ length out
 
--- the bytes were run: the line's first n bytes are the line that had begun, and the text stands in `out` from `at` up
+-- the bytes were run: the first n bytes of `line` are the line that has begun, before and after, and the text is put into `out` at `at`
 pub record Ran (bytes : List ℕ) (n : ℕ) (line words : List ℕ) (at : ℕ) (out : List ℕ) (n' : ℕ) (line' words' : List ℕ) (at' : ℕ) (out' : List ℕ) : Type 0 where
   pub within : n' ≤ 81
   pub partial : take n' line' ≡ ran bytes (take n line) words .line
   pub state : words' ≡ ran bytes (take n line) words .state
   pub put : Put (ran bytes (take n line) words .text) at out out' at'
+
+-- of the input the bytes from `from` up to where it stopped were run; it stops at the end, or where no further answer fits
+pub record Fed (input : List ℕ) (from n : ℕ) (line words out : List ℕ) (r : Progress) (line' words' out' : List ℕ) : Type 0 where
+  pub onward : from ≤ r .consumed
+  pub inside : r .consumed ≤ length input
+  pub run : Ran (slice from (r .consumed) input) n line words 0 out (r .length) line' words' (r .produced) out'
+  pub stopped : (r .consumed ≡ length input) ⊎ (length out < r .produced + 30)

@@ -43,15 +43,27 @@ fn answer_request(words: &mut [u32], request: Request, out: &mut [u8], at: usize
         }
         Request::WriteDistributor(d) => {
             let width = d.width;
-            put(out, at, write_v2_distributor(words, d.vcpu, d.offset, width, d.value))
+            put(
+                out,
+                at,
+                write_v2_distributor(words, d.vcpu, d.offset, width, d.value),
+            )
         }
         Request::ReadCpuInterface(c) => {
             let width = c.width;
-            put(out, at, read_v2_cpu_interface(words, c.vcpu, c.offset, width))
+            put(
+                out,
+                at,
+                read_v2_cpu_interface(words, c.vcpu, c.offset, width),
+            )
         }
         Request::WriteCpuInterface(c) => {
             let width = c.width;
-            put(out, at, write_v2_cpu_interface(words, c.vcpu, c.offset, width, c.value))
+            put(
+                out,
+                at,
+                write_v2_cpu_interface(words, c.vcpu, c.offset, width, c.value),
+            )
         }
         Request::SetLevel(l) => put(out, at, set_level(words, l.vcpu, l.number, l.asserted)),
         Request::Pulse(p) => put(out, at, pulse(words, p.vcpu, p.number)),
