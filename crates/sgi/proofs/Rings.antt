@@ -21,7 +21,7 @@ use Rattle.state.specs.Layout.{Slot, Sources, Exists, Limits, Room}
 use Rattle.state.specs.Words.{wordAt, recordSlot, recordAt, changed, sourcesAt, withSources}
 use Rattle.state.proofs.Accessors.{put-room, put-other, record-exists, record-same, sources-same, record-no-sources}
 use Rattle.state.proofs.Numbers.{Of, one-vcpu, then-local, if-local, unless-local, put-local, changed-local, sources-local}
-use Rattle.state.proofs.Steps.{Agree, Local, steps-own, steps-others}
+use Rattle.state.proofs.Steps.{Agree, Local, steps-room, steps-own, steps-others}
 use Rattle.sgi.specs.declared.SgiTarget.{SgiTarget}
 use Rattle.sgi.specs.Sgi.{pendBySources, mergedSources, writeSources, pendSgi, includes, sentTo, sendSgi}
 
@@ -63,6 +63,10 @@ module _ (shape : Shape) (source n : ℕ) (target : SgiTarget) (s : List ℕ) (h
   pub sgi-others : (t : Slot) → Exists shape t → ((v : ℕ) → v < shape .count → Of v n t → ⊥) → wordAt shape t (sendSgi shape source n target s) ≡ wordAt shape t s
   unfolding sendSgi
   sgi-others t e away = steps-others shape (λ u. Of u n) (sentTo shape target source n) (shape .count) s sent t e away
+
+  pub sgi-room : Room shape (sendSgi shape source n target s)
+  unfolding sendSgi
+  sgi-room = steps-room shape (λ u. Of u n) (sentTo shape target source n) (shape .count) s sent h
 
 -- a source set and then its record: both are as written
 module _ (shape : Shape) (v n : ℕ) (s : List ℕ) (h : Room shape s) (e : Exists shape (Sources v n)) where

@@ -1,0 +1,101 @@
+-- Each call's promise admits one outcome: two answers and states that it allows for the same inputs are the same answer, case by case and
+-- number by number, and the same words. Assumes nothing.
+use mathlib.Core.Path.{_≡_, refl, sym, ap, _∙_}
+use mathlib.Core.Bool.{Bool, cond}
+use mathlib.Core.List.{List}
+use Prim.Native.Nat.{ℕ}
+use native.Mathlib.Omega.{arith}
+use lib.Dec.{eqb}
+use Rattle.register.specs.declared.frame.AccessWidth.{AccessWidth}
+use Rattle.register.specs.declared.frame.Refusal.{Refusal}
+use Rattle.register.specs.declared.frame.Refusal.the-variants.{Access, Width, Vcpu, Limits, ShortState, BrokenState, FullStack, Input}
+use Rattle.register.specs.Frame.{refusalNumber}
+use Rattle.controller.specs.declared.answer.Answer.{Answer}
+use Rattle.controller.specs.declared.answer.Answer.the-variants.{Done, Refused}
+use Rattle.controller.specs.declared.answer.Reply.{Reply}
+use Rattle.controller.specs.Answer.{Outcome, outcome}
+use Rattle.controller.specs.Start.{setup}
+use Rattle.controller.specs.DistributorFrame.{readV2Distributor, writeV2Distributor}
+use Rattle.controller.specs.CpuInterfaceFrame.{readV2CpuInterface, writeV2CpuInterface}
+use Rattle.controller.specs.Input.{setLevel, pulse}
+
+-- a refusal is known by its number, and no number is 0
+numbered : (r q : Refusal) → refusalNumber r ≡ refusalNumber q → r ≡ q
+numbered r q p = sym (back r) ∙ ap named p ∙ back q
+  where
+    named : ℕ → Refusal
+    named n =
+        cond (eqb n 1) Access
+        (cond (eqb n 2) Width
+        (cond (eqb n 3) Vcpu
+        (cond (eqb n 4) Limits
+        (cond (eqb n 5) ShortState
+        (cond (eqb n 6) BrokenState
+        (cond (eqb n 7) FullStack Input))))))
+
+    back : (r : Refusal) → named (refusalNumber r) ≡ r
+    back Access = refl
+    back Width = refl
+    back Vcpu = refl
+    back Limits = refl
+    back ShortState = refl
+    back BrokenState = refl
+    back FullStack = refl
+    back Input = refl
+
+some-number : (r : Refusal) → 0 ≡ refusalNumber r → ⊥
+some-number Access p = omega (arith, p)
+some-number Width p = omega (arith, p)
+some-number Vcpu p = omega (arith, p)
+some-number Limits p = omega (arith, p)
+some-number ShortState p = omega (arith, p)
+some-number BrokenState p = omega (arith, p)
+some-number FullStack p = omega (arith, p)
+some-number Input p = omega (arith, p)
+
+replied : (r q : Reply) → r .value ≡ q .value → r .wake ≡ q .wake → r .retired .0 ≡ q .retired .0 → r ≡ q
+replied r q a b c =
+    ap (λ (x : ℕ). made x (r .wake) (r .retired .0)) a
+    ∙ ap (λ (x : ℕ). made (q .value) x (r .retired .0)) b
+    ∙ ap (λ (x : ℕ). made (q .value) (q .wake) x) c
+  where
+    made : ℕ → ℕ → ℕ → Reply
+    made x w n = record { value = x; wake = w; retired = record { 0 = n } }
+
+same-answer : (a b : Answer) (x y : List ℕ) → outcome a x ≡ outcome b y → a ≡ b
+same-answer (Done r) (Done q) x y p = ap Done (replied r q (ap (λ (o : Outcome). o .value) p) (ap (λ (o : Outcome). o .wake) p) (ap (λ (o : Outcome). o .retired) p))
+same-answer (Done r) (Refused q) x y p = absurd (some-number q (ap (λ (o : Outcome). o .refusal) p))
+same-answer (Refused r) (Done q) x y p = absurd (some-number r (sym (ap (λ (o : Outcome). o .refusal) p)))
+same-answer (Refused r) (Refused q) x y p = ap Refused (numbered r q (ap (λ (o : Outcome). o .refusal) p))
+
+-- what a promise admits for a meaning
+pub record Admitted (meaning : Outcome) (a : Answer) (s : List ℕ) : Type 0 where
+  pub meant : outcome a s ≡ meaning
+
+-- one outcome
+abbrev pub One : Outcome → Type 0
+One meaning = (a b : Answer) (x y : List ℕ) → Admitted meaning a x → Admitted meaning b y → (a ≡ b) × (x ≡ y)
+
+one : (meaning : Outcome) → One meaning
+one meaning a b x y p q = let e : outcome a x ≡ outcome b y = p .meant ∙ sym (q .meant) in (same-answer a b x y e, ap (λ (o : Outcome). o .state) e)
+
+pub setup-one : (count limit : ℕ) (s : List ℕ) → One (setup count limit s)
+setup-one count limit s = one (setup count limit s)
+
+pub read-v2-distributor-one : (v offset : ℕ) (width : AccessWidth) (s : List ℕ) → One (readV2Distributor v offset width s)
+read-v2-distributor-one v offset width s = one (readV2Distributor v offset width s)
+
+pub write-v2-distributor-one : (v offset : ℕ) (width : AccessWidth) (value : ℕ) (s : List ℕ) → One (writeV2Distributor v offset width value s)
+write-v2-distributor-one v offset width value s = one (writeV2Distributor v offset width value s)
+
+pub read-v2-cpu-interface-one : (v offset : ℕ) (width : AccessWidth) (s : List ℕ) → One (readV2CpuInterface v offset width s)
+read-v2-cpu-interface-one v offset width s = one (readV2CpuInterface v offset width s)
+
+pub write-v2-cpu-interface-one : (v offset : ℕ) (width : AccessWidth) (value : ℕ) (s : List ℕ) → One (writeV2CpuInterface v offset width value s)
+write-v2-cpu-interface-one v offset width value s = one (writeV2CpuInterface v offset width value s)
+
+pub set-level-one : (v n : ℕ) (asserted : Bool) (s : List ℕ) → One (setLevel v n asserted s)
+set-level-one v n asserted s = one (setLevel v n asserted s)
+
+pub pulse-one : (v n : ℕ) (s : List ℕ) → One (pulse v n s)
+pulse-one v n s = one (pulse v n s)

@@ -1,0 +1,57 @@
+-- `controller::input::input_at` meets its contract. Assumes nothing.
+use mathlib.Core.Path.{sym, _∙_}
+use Rattle.controller.specs.Input.{signalled}
+use Rattle.wake.proofs.WakeSets.{wake-from}
+use Rattle.controller.proofs.Calls.{changed-sound, input-there}
+use borrow.Author.Needs.{needs}
+use Rattle.controller.proofs.input.input_at.Statement.{statement}
+use Rattle.controller.proofs.input.input_at.Tie as tie
+
+input-number-requires : tie.Need-input-number-requires
+input-number-requires c κs = search needs
+
+enum-known-intid : tie.Need-enum-known-intid
+enum-known-intid c = search needs
+
+enum-told : tie.Need-enum-told
+enum-told c = search needs
+
+returns : tie.Need-returns
+returns c = simp (← c .before .before .input-number .ensures, c .enum-told .given .1)
+
+absent-requires : tie.Need-absent-requires
+absent-requires c κs = search needs
+
+returns-2 : tie.Need-returns-2
+returns-2 c = simp (← c .before .before .before .before .before .before .input-number .ensures, c .before .before .before .before .intid .given .1, ← c .before .absent .ensures, c .if1 .taken)
+
+quiet-vcpus-requires : tie.Need-quiet-vcpus-requires
+quiet-vcpus-requires c κs = search needs
+
+signal-record-requires : tie.Need-signal-record-requires
+signal-record-requires c κs = record { state = c .before .before .before .before .before .before .before .before .before .before .before .pre .state; there = input-there (c .before .before .before .before .before .before .before .before .before .before .before .args .shape) (c .before .before .before .before .before .before .before .before .before .before .before .args .vcpu .0) (c .before .before .before .before .before .before .before .before .before .before .before .args .number) _ (sym (c .before .before .before .before .before .before .before .before .before .input-number .ensures) ∙ c .before .before .before .before .before .before .before .intid .given .1) (sym (c .before .before .before .before .absent .ensures) ∙ c .before .before .before .if1 .left) }
+
+done-requires : tie.Need-done-requires
+done-requires c κs = rw (c .before .before .before .signal-record .ensures) (changed-sound (c .before .before .before .before .before .before .before .before .before .before .before .before .before .before .before .args .shape) (c .before .before .before .before .before .before .before .before .before .before .before .before .before .before .before .args .vcpu .0) _ (signalled (c .before .before .before .before .before .before .before .before .before .before .before .before .before .before .before .args .signal)) (c .before .before .before .before .before .before .before .before .before .before .before .before .before .before .before .args .words .now) (c .before .before .before .before .before .before .before .before .before .before .before .before .before .before .before .pre) (input-there (c .before .before .before .before .before .before .before .before .before .before .before .before .before .before .before .args .shape) (c .before .before .before .before .before .before .before .before .before .before .before .before .before .before .before .args .vcpu .0) (c .before .before .before .before .before .before .before .before .before .before .before .before .before .before .before .args .number) _ (sym (c .before .before .before .before .before .before .before .before .before .before .before .before .before .input-number .ensures) ∙ c .before .before .before .before .before .before .before .before .before .before .before .intid .given .1) (sym (c .before .before .before .before .before .before .before .before .absent .ensures) ∙ c .before .before .before .before .before .before .before .if1 .left)))
+
+same-length : tie.Need-same-length
+same-length c = search needs
+
+returns-3 : tie.Need-returns-3
+returns-3 c = c .done .ensures ∙ simp (c .before .before .before .before .signal-record .ensures, c .before .before .before .before .before .before .quiet-vcpus .ensures, wake-from (c .before .before .before .before .before .before .before .before .before .before .before .before .before .before .before .before .args .shape) (c .before .before .before .before .before .before .before .before .before .before .before .before .before .before .before .before .pre .state .limits), ← c .before .before .before .before .before .before .before .before .before .before .before .before .before .before .input-number .ensures, c .before .before .before .before .before .before .before .before .before .before .before .before .intid .given .1, ← c .before .before .before .before .before .before .before .before .before .absent .ensures, c .before .before .before .before .before .before .before .before .if1 .left)
+
+pub input-at-spec : {M : Type 1} → statement M
+input-at-spec =
+    tie.close
+    (tie.spec
+    input-number-requires
+    enum-known-intid
+    enum-told
+    returns
+    absent-requires
+    returns-2
+    quiet-vcpus-requires
+    signal-record-requires
+    done-requires
+    same-length
+    returns-3)

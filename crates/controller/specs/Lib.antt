@@ -1,0 +1,5 @@
+pub mod Answer
+pub mod CpuInterfaceFrame
+pub mod DistributorFrame
+pub mod Input
+pub mod Start

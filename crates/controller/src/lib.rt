@@ -1,0 +1,17 @@
+// The public calls: setup, the two frames under their Rust names, and device inputs. None asks anything of its caller. Mirrors the entries
+// of v2.rs.
+pub mod answer;
+pub mod cpu_interface_frame;
+pub mod distributor_frame;
+pub mod input;
+pub mod start;
+
+pub use answer::Answer;
+pub use answer::Reply;
+pub use cpu_interface_frame::read_v2_cpu_interface;
+pub use cpu_interface_frame::write_v2_cpu_interface;
+pub use distributor_frame::read_v2_distributor;
+pub use distributor_frame::write_v2_distributor;
+pub use input::pulse;
+pub use input::set_level;
+pub use start::setup;
