@@ -1,4 +1,5 @@
 -- The division of the input into blocks does not count: bytes run after bytes are all of them run. Assumes nothing.
+use mathlib.Core.Logic.{⊎-elim}
 use mathlib.Core.Path.{_≡_, refl, sym, ap, _∙_, subst}
 use mathlib.Core.Bool.{Bool, true, false, cond}
 use mathlib.Core.List.{List, [], _∷_, _++_, append-assoc, append-nil}
@@ -7,12 +8,13 @@ use native.Mathlib.Nat.{add-zero}
 use native.Mathlib.Numerals.{add-one}
 use native.Mathlib.Omega.{arith}
 use lib.Dec.{eqb, ltb}
-use lib.ListN.{length, getD, take, drop, set}
-use lib.Seq.{slice, slice-empty, take-suc, take-suc-set, length-take-le, drop-append-le}
-use borrow.Author.Tests.{lt-ltb, le-ltb, eq-eqb, ne-eqb}
+use lib.ListN.{length, getD, take, drop, set, take-append-drop}
+use lib.Seq.{slice, slice-empty, take-take, take-suc, take-suc-set, length-take-le, drop-append-le}
+use borrow.Author.Tests.{lt-ltb, le-ltb, eq-eqb, ne-eqb, ltb-true, ltb-false}
 use Rattle.script.specs.Text.{Put}
+use Rattle.runner.specs.declared.input.Progress.{Progress}
 use Rattle.script.proofs.Puts.{put-then, put-inside}
-use Rattle.runner.specs.Runner.{Run, lineAnswer, Prints, kept, after, ran, Ran}
+use Rattle.runner.specs.Runner.{Run, lineAnswer, Prints, kept, after, ran, Went, Ran, Fed}
 
 pub ran-append : (a b line s : List ℕ) → ran (a ++ b) line s ≡ after (ran a line s .text) (ran b (ran a line s .line) (ran a line s .state))
 unfolding ran
@@ -41,28 +43,41 @@ run-byte : (b : ℕ) (line s : List ℕ) → (b ≡ 10 → ⊥) → ran (b ∷ [
 unfolding ran
 run-byte b line s e = simp (ne-eqb b 10 e)
 
+module _ (n : ℕ) (line words : List ℕ) where
+  -- by what the bytes come to
+  went-as : {bytes : List ℕ} {n' : ℕ} {line' words' : List ℕ} (r : Run) → ran bytes (take n line) words ≡ r → n' ≤ 81 → take n' line' ≡ r .line → words' ≡ r .state
+      → Went bytes n line words n' line' words'
+  went-as r e h l w = record { within = h; partial = l ∙ sym (ap (λ (x : Run). x .line) e); state = w ∙ sym (ap (λ (x : Run). x .state) e) }
+
+  pub went-none : n ≤ 81 → Went [] n line words n line words
+  unfolding ran
+  went-none h = record { within = h; partial = refl; state = refl }
+
+  -- the bytes b after a
+  both : {a : List ℕ} (b : List ℕ) {n' : ℕ} {line' words' : List ℕ} → Went a n line words n' line' words'
+      → ran (a ++ b) (take n line) words ≡ after (ran a (take n line) words .text) (ran b (take n' line') words')
+  both {a} b p = ran-append a b (take n line) words ∙ rw (p .partial, p .state)
+
+  pub went-then : {a b : List ℕ} {n' n'' : ℕ} {line' words' line'' words'' : List ℕ}
+      → Went a n line words n' line' words' → Went b n' line' words' n'' line'' words'' → Went (a ++ b) n line words n'' line'' words''
+  went-then {b} p q = went-as _ (both b p) (q .within) (q .partial) (q .state)
+
 module _ (n : ℕ) (line words : List ℕ) (at : ℕ) (out : List ℕ) where
+  ran-as : {bytes : List ℕ} {n' at' : ℕ} {line' words' out' : List ℕ} (r : Run) → ran bytes (take n line) words ≡ r
+      → n' ≤ 81 → take n' line' ≡ r .line → words' ≡ r .state → Put (r .text) at out out' at' → Ran bytes n line words at out n' line' words' at' out'
+  ran-as {at'} {out'} r e h l w p = record {
+    went = went-as n line words r e h l w;
+    put = subst (λ (t : List ℕ). Put t at out out' at') (sym (ap (λ (x : Run). x .text) e)) p;
+  }
+
   pub ran-none : n ≤ 81 → at ≤ length out → Ran [] n line words at out n line words at out
   unfolding ran
-  ran-none h k = record { within = h; partial = refl; state = refl; put = put-none at out k }
+  ran-none h k = record { went = went-none n line words h; put = put-none at out k }
 
-  module _ {a : List ℕ} {n' at' : ℕ} {line' words' out' : List ℕ} where
-    -- by what the bytes come to
-    ran-as : (r : Run) → ran a (take n line) words ≡ r → n' ≤ 81 → take n' line' ≡ r .line → words' ≡ r .state → Put (r .text) at out out' at'
-        → Ran a n line words at out n' line' words' at' out'
-    ran-as r e h l w p = record {
-      within = h;
-      partial = l ∙ sym (ap (λ (x : Run). x .line) e);
-      state = w ∙ sym (ap (λ (x : Run). x .state) e);
-      put = subst (λ (t : List ℕ). Put t at out out' at') (sym (ap (λ (x : Run). x .text) e)) p;
-    }
-
-  module _ {a b : List ℕ} {n' n'' at' at'' : ℕ} {line' words' out' line'' words'' out'' : List ℕ} where
-    pub ran-then : Ran a n line words at out n' line' words' at' out' → Ran b n' line' words' at' out' n'' line'' words'' at'' out''
-        → Ran (a ++ b) n line words at out n'' line'' words'' at'' out''
-    ran-then p q =
-        ran-as (after (ran a (take n line) words .text) (ran b (take n' line') words')) (ran-append a b (take n line) words ∙ rw (p .partial, p .state))
-        (q .within) (q .partial) (q .state) (put-then (p .put) (q .put))
+  pub ran-then : {a b : List ℕ} {n' n'' at' at'' : ℕ} {line' words' out' line'' words'' out'' : List ℕ}
+      → Ran a n line words at out n' line' words' at' out' → Ran b n' line' words' at' out' n'' line'' words'' at'' out''
+      → Ran (a ++ b) n line words at out n'' line'' words'' at'' out''
+  ran-then {b} p q = ran-as _ (both n line words b (p .went)) (q .went .within) (q .went .partial) (q .went .state) (put-then (p .put) (q .put))
 
   -- a newline ends a line
   pub newline : {words' out' : List ℕ} {end : ℕ} (b : ℕ) → b ≡ 10 → Prints (lineAnswer (take n line) words) at words' out out' end
@@ -87,3 +102,27 @@ pub slice-more : (input : List ℕ) (from i : ℕ) → from ≤ i → i < length
 slice-more input from i h k =
     let inside : from ≤ length (take i input) = rw (length-take-le i input (omega arith)) h in
     rw (add-one, take-suc input i 0 k) (drop-append-le from (take i input) (getD input i 0 ∷ []) inside)
+
+-- bytes run so far, and those after them
+pub slice-join : (input : List ℕ) (from to : ℕ) → from ≤ to → to ≤ length input → take from input ++ slice from to input ≡ take to input
+slice-join input from to h k = rw (← take-take from to input h) (take-append-drop from (take to input))
+
+-- where there is input and room for an answer, something is read
+pub moves : (input : List ℕ) (from n : ℕ) (line words out : List ℕ) (r : Progress) {line' words' out' : List ℕ} → Fed input from n line words out r line' words' out'
+    → from < length input → 30 ≤ length out → from < r .consumed
+unfolding ran
+moves input from n line words out r fed h room = ⊎-elim (λ done. omega arith) (λ full. go (ltb from (r .consumed)) refl full) (fed .stopped)
+  where
+    nothing : r .consumed ≡ from → r .produced ≡ 0
+    nothing e =
+        let none : slice from (r .consumed) input ≡ [] = rw e (slice-empty from input) in
+        let past = fed .run .put .past in
+        past ∙ rw none refl
+
+    go : (b : Bool) → ltb from (r .consumed) ≡ b → length out < r .produced + 30 → from < r .consumed
+    go true p full = ltb-true from (r .consumed) p
+    go false p full =
+        let back = ltb-false from (r .consumed) p in
+        let on = fed .onward in
+        let zero = nothing (omega arith) in
+        absurd (omega arith)

@@ -86,11 +86,15 @@ pub record Ready (n : ℕ) (line : List ℕ) (at : ℕ) (out : List ℕ) : Type 
   pub begun : Begun n line
   pub room : at + 30 ≤ length out
 
--- the bytes were run: the first n bytes of `line` are the line that has begun, before and after, and the text is put into `out` at `at`
-pub record Ran (bytes : List ℕ) (n : ℕ) (line words : List ℕ) (at : ℕ) (out : List ℕ) (n' : ℕ) (line' words' : List ℕ) (at' : ℕ) (out' : List ℕ) : Type 0 where
+-- the bytes were run: the first n bytes of `line` are the line that has begun, before and after
+pub record Went (bytes : List ℕ) (n : ℕ) (line words : List ℕ) (n' : ℕ) (line' words' : List ℕ) : Type 0 where
   pub within : n' ≤ 81
   pub partial : take n' line' ≡ ran bytes (take n line) words .line
   pub state : words' ≡ ran bytes (take n line) words .state
+
+-- and their text was put into `out` at `at`
+pub record Ran (bytes : List ℕ) (n : ℕ) (line words : List ℕ) (at : ℕ) (out : List ℕ) (n' : ℕ) (line' words' : List ℕ) (at' : ℕ) (out' : List ℕ) : Type 0 where
+  pub went : Went bytes n line words n' line' words'
   pub put : Put (ran bytes (take n line) words .text) at out out' at'
 
 -- of the input the bytes from `from` up to where it stopped were run; it stops at the end, or where no further answer fits

@@ -57,7 +57,7 @@ step-requires c κs =
     let sames = inv .3 in
     let same = inv .4 in
     let pre = c .before .before .before .before .before .before .before .before .before .before .before .pre .0 .lineRoom in
-    record { begun = record { some = inv .5 .within; lineRoom = omega arith }; room = omega arith }
+    record { begun = record { some = inv .5 .went .within; lineRoom = omega arith }; room = omega arith }
 
 add-i : tie.Need-add-i Inv-loop μ-loop
 add-i c = search needs

@@ -1,0 +1,106 @@
+// Reads lines from standard input and prints the answer to each, block by block. After each block all that it asked for is written, so
+// that whoever types a line has its answer at once.
+ghost use mathlib.Core.Path.{_≡_};
+ghost use Prim.Native.Nat.{_≤_};
+ghost use lib.ListN.{length};
+ghost use Rattle.runner.specs.Runner.{Begun};
+use libc::STDIN_FILENO;
+use libc::STDOUT_FILENO;
+use runner::answer_line;
+use runner::feed;
+
+// Whether to go on, and how many bytes of a line are kept.
+struct Turn {
+    goes_on: bool,
+    begun: usize,
+}
+
+// Answers a block that was read.
+fn answer_block(
+    words: &mut [u32],
+    line: &mut [u8],
+    begun: usize,
+    block: &[u8],
+    out: &mut [u8],
+) -> Turn
+    requires { ⌜ (Begun begun (now line)) × (30 ≤ length (now out)) ⌝ }
+    ensures { λ r. ⌜ r .begun ≤ 81 ⌝ }
+{
+    let mut kept = begun;
+    let mut from = 0;
+    while from < block.len() {
+        let progress = feed(words, line, kept, block, from, out);
+        let produced = progress.produced;
+        if io::write_all(STDOUT_FILENO, &out[..produced]) {
+            kept = progress.length;
+            from = progress.consumed;
+        } else {
+            return Turn {
+                goes_on: false,
+                begun: 0,
+            };
+        }
+    }
+    Turn {
+        goes_on: true,
+        begun: kept,
+    }
+}
+
+fn read_block(
+    words: &mut [u32],
+    line: &mut [u8],
+    begun: usize,
+    block: &mut [u8],
+    out: &mut [u8],
+) -> Turn
+    requires { ⌜ (Begun begun (now line)) × (30 ≤ length (now out)) ⌝ }
+    ensures { λ r. ⌜ r .begun ≤ 81 ⌝ }
+{
+    let got = libc::read(STDIN_FILENO, block);
+    if got <= 0 {
+        return Turn {
+            goes_on: false,
+            begun,
+        };
+    }
+    let n = io::count(got, block);
+    answer_block(words, line, begun, &block[..n], out)
+}
+
+// The last line may lack its newline.
+fn answer_rest(words: &mut [u32], line: &[u8], begun: usize, out: &mut [u8])
+    requires { ⌜ (Begun begun (now line)) × (30 ≤ length (now out)) ⌝ }
+{
+    if 0 < begun {
+        let end = answer_line(words, &line[..begun], out, 0);
+        io::write_all(STDOUT_FILENO, &out[..end]);
+    }
+}
+
+// A proved loop has to end, and nothing says that the input does: so it counts its turns down, from a number that no run uses up.
+fn run(words: &mut [u32], line: &mut [u8], block: &mut [u8], out: &mut [u8])
+    requires { ⌜ (Begun 0 (now line)) × (30 ≤ length (now out)) ⌝ }
+{
+    let mut begun = 0;
+    let mut turns = u64::MAX;
+    while 0 < turns {
+        let turn = read_block(words, line, begun, block, out);
+        begun = turn.begun;
+        if turn.goes_on {
+            turns -= 1;
+        } else {
+            turns = 0;
+        }
+    }
+    answer_rest(words, line, begun, out);
+}
+
+// The words are those of the largest controller: 8 vCPUs, limit 1020. Zeros are no controller.
+fn main() {
+    let mut words = [0u32; 3447];
+    let mut line = [0u8; 81];
+    let mut block = io::large_buffer();
+    let mut out = io::large_buffer();
+    run(&mut words, &mut line, &mut block, &mut out);
+}
