@@ -1,9 +1,10 @@
 // Reads lines from standard input and prints the answer to each, block by block. After each block all that it asked for is written, so
 // that whoever types a line has its answer at once.
+ghost use mathlib.Core.Bool.{true};
 ghost use mathlib.Core.Path.{_≡_};
 ghost use Prim.Native.Nat.{_≤_};
 ghost use lib.ListN.{length};
-ghost use Rattle.runner.specs.Runner.{Begun};
+ghost use Rattle.runner.specs.Runner.{Begun, Went};
 use libc::STDIN_FILENO;
 use libc::STDOUT_FILENO;
 use runner::answer_line;
@@ -11,7 +12,7 @@ use runner::feed;
 
 // Whether to go on, and how many bytes of a line are kept.
 struct Turn {
-    goes_on: bool,
+    more: bool,
     begun: usize,
 }
 
@@ -24,7 +25,7 @@ fn answer_block(
     out: &mut [u8],
 ) -> Turn
     requires { ⌜ (Begun begun (now line)) × (30 ≤ length (now out)) ⌝ }
-    ensures { λ r. ⌜ r .begun ≤ 81 ⌝ }
+    ensures { λ r. ⌜ (r .begun ≤ 81) × (r .more ≡ true → Went (now (block .entry)) begun (now (line .entry)) (now (words .entry)) (r .begun) (now (line .exit)) (now (words .exit))) ⌝ }
 {
     let mut kept = begun;
     let mut from = 0;
@@ -36,13 +37,13 @@ fn answer_block(
             from = progress.consumed;
         } else {
             return Turn {
-                goes_on: false,
+                more: false,
                 begun: 0,
             };
         }
     }
     Turn {
-        goes_on: true,
+        more: true,
         begun: kept,
     }
 }
@@ -59,10 +60,7 @@ fn read_block(
 {
     let got = libc::read(STDIN_FILENO, block);
     if got <= 0 {
-        return Turn {
-            goes_on: false,
-            begun,
-        };
+        return Turn { more: false, begun };
     }
     let n = io::count(got, block);
     answer_block(words, line, begun, &block[..n], out)
@@ -87,7 +85,7 @@ fn run(words: &mut [u32], line: &mut [u8], block: &mut [u8], out: &mut [u8])
     while 0 < turns {
         let turn = read_block(words, line, begun, block, out);
         begun = turn.begun;
-        if turn.goes_on {
+        if turn.more {
             turns -= 1;
         } else {
             turns = 0;

@@ -1,44 +1,40 @@
+-- `vgicrun::answer_rest` meets its contract. Assumes nothing.
+use mathlib.Core.Path.{sym}
+use native.Mathlib.Omega.{arith}
+use lib.Seq.{length-take-le}
+use Rattle.script.proofs.Puts.{put-length, put-inside}
 use borrow.Author.Needs.{needs}
 use Rattle.vgicrun.proofs.answer_rest.Statement.{statement}
 use Rattle.vgicrun.proofs.answer_rest.Tie as tie
-use Rattle.vgicrun.proofs.answer_rest.Reads as reads
-use Rattle.vgicrun.proofs.answer_rest.Lts as lts
-use Rattle.io.proofs.write_all.Reads as write-all-reads
-use Rattle.runner.proofs.answer_line.Reads as answer-line-reads
 
--- src/main.rt:76:38
 slice-aggregate-answer-line : tie.Need-slice-aggregate-answer-line
-slice-aggregate-answer-line c = ?
+slice-aggregate-answer-line c = sym (length-take-le (c .before .before .before .before .before .before .args .begun) (c .before .before .before .before .before .before .args .line .now) (search needs))
 
--- src/main.rt:76:13
 answer-line-requires : tie.Need-answer-line-requires
 answer-line-requires c κs = search needs
 
--- src/main.rt:77:38
 slice-reshare-prefix-write-all : tie.Need-slice-reshare-prefix-write-all
 slice-reshare-prefix-write-all c = search needs
 
--- src/main.rt:77:38
 slice-aggregate-write-all : tie.Need-slice-aggregate-write-all
-slice-aggregate-write-all c = ?
+slice-aggregate-write-all c =
+    let put = c .before .before .before .before .before .answer-line .ensures .put in
+    let inside = put-inside put in
+    let same = put-length put in
+    sym (length-take-le (c .before .before .before .before .before .answer-line .result) (c .before .before .before .before .before .answer-line .last .1 .1 .0) (omega arith))
 
--- src/main.rt:77:9
 write-all-requires : tie.Need-write-all-requires
 write-all-requires c κs = search needs
 
--- src/main.rt:72:1
 same-length : tie.Need-same-length
 same-length c = search needs
 
--- src/main.rt:72:1
 same-length-2 : tie.Need-same-length-2
 same-length-2 c = search needs
 
--- src/main.rt:72:1
 returns : tie.Need-returns
 returns c = search needs
 
--- src/main.rt:72:1
 returns-2 : tie.Need-returns-2
 returns-2 c = search needs
 
