@@ -3,17 +3,16 @@ use mathlib.Core.Logic.{⊎-elim}
 use mathlib.Core.Path.{_≡_, refl, sym, ap, _∙_, subst}
 use mathlib.Core.Bool.{Bool, true, false, cond}
 use mathlib.Core.List.{List, [], _∷_, _++_, append-assoc, append-nil}
-use Prim.Native.Nat.{ℕ, zero, suc, _+_, _≤_, _<_}
-use native.Mathlib.Nat.{add-zero}
+use Prim.Native.Nat.{ℕ, zero, _+_, _≤_, _<_}
 use native.Mathlib.Numerals.{add-one}
 use native.Mathlib.Omega.{arith}
 use lib.Dec.{eqb, ltb}
-use lib.ListN.{length, getD, take, drop, set, take-append-drop}
+use lib.ListN.{length, getD, take, set, take-append-drop}
 use lib.Seq.{slice, slice-empty, take-take, take-suc, take-suc-set, length-take-le, drop-append-le}
 use borrow.Author.Tests.{lt-ltb, le-ltb, eq-eqb, ne-eqb, ltb-true, ltb-false}
 use Rattle.script.specs.Text.{Put}
 use Rattle.runner.specs.declared.input.Progress.{Progress}
-use Rattle.script.proofs.Puts.{put-then, put-inside}
+use Rattle.script.proofs.Puts.{put-then}
 use Rattle.runner.specs.Runner.{Run, lineAnswer, Prints, kept, after, ran, Went, Ran, Fed}
 
 pub ran-append : (a b line s : List ℕ) → ran (a ++ b) line s ≡ after (ran a line s .text) (ran b (ran a line s .line) (ran a line s .state))

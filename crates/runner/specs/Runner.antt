@@ -49,7 +49,22 @@ pub record Prints (p : Printed) (at : ℕ) (words' out out' : List ℕ) (end : �
   pub state : words' ≡ p .state
   pub put : Put (p .text) at out out' end
 
--- a run over some bytes: what is printed, the line that has begun, and the words
+-- the lines of an input, after bytes of a line that has begun; 10 is a newline. "the last may lack it", and an empty rest is no line
+unfoldable pub linesAfter : List ℕ → List ℕ → List (List ℕ)
+linesAfter line [] = cond (ltb 0 (length line)) (line ∷ []) []
+linesAfter line (b ∷ bs) = cond (eqb b 10) (line ∷ linesAfter [] bs) (linesAfter (line ++ b ∷ []) bs)
+
+-- each line's answer, in the state that the lines before it left
+unfoldable pub answers : List (List ℕ) → List ℕ → List ℕ
+answers [] s = []
+answers (line ∷ lines) s = lineAnswer line s .text ++ answers lines (lineAnswer line s .state)
+
+-- what the program prints for its whole input, from words s
+abbrev pub printed : List ℕ → List ℕ → List ℕ
+printed input s = answers (linesAfter [] input) s
+
+-- How `feed` goes about it, a byte at a time: what is printed, the line that has begun, and the words. proofs/Whole.antt shows that it
+-- prints the same.
 pub record Run : Type 0 where
   pub text : List ℕ
   pub line : List ℕ
@@ -62,19 +77,15 @@ kept line b = cond (ltb (length line) 81) (line ++ b ∷ []) line
 abbrev pub after : List ℕ → Run → Run
 after text run = record { text = text ++ run .text; line = run .line; state = run .state }
 
--- the bytes, after a line that has begun; 10 is a newline
+-- the bytes, after a line that has begun
 unfoldable pub ran : List ℕ → List ℕ → List ℕ → Run
 ran [] line s = record { text = []; line = line; state = s }
 ran (b ∷ bs) line s =
     cond (eqb b 10) (after (lineAnswer line s .text) (ran bs [] (lineAnswer line s .state))) (ran bs (kept line b) s)
 
--- a line that no newline ends is one, unless nothing follows the last newline
+-- at the end of the input
 unfoldable pub ended : Run → List ℕ
 ended run = cond (ltb 0 (length (run .line))) (run .text ++ lineAnswer (run .line) (run .state) .text) (run .text)
-
--- what the program prints for its whole input, from words s
-unfoldable pub printedFor : List ℕ → List ℕ → List ℕ
-printedFor input s = ended (ran input [] s)
 
 -- bytes for a line, n of which are taken
 pub record Begun (n : ℕ) (line : List ℕ) : Type 0 where

@@ -1,7 +1,6 @@
 // A line, the call that it asks for, and the text of the answer.
 ghost use Prim.Native.Nat.{_+_, _≤_};
 ghost use lib.ListN.{length};
-ghost use Rattle.controller.specs.Answer.{outcome};
 ghost use Rattle.script.specs.Text.{Put};
 ghost use Rattle.runner.specs.Runner.{called, lineAnswer, textOf, Prints};
 use controller::Answer;

@@ -1,9 +1,9 @@
 -- A line read from the left, a field at a time, has the fields that its spaces part. Assumes nothing.
-use mathlib.Core.Path.{_≡_, refl, sym, ap, _∙_, subst}
+use mathlib.Core.Path.{_≡_, refl, ap, _∙_, subst}
 use mathlib.Core.Bool.{Bool, true, false, cond}
 use mathlib.Core.List.{List, [], _∷_}
 use mathlib.Core.Option.{Option, none, some}
-use Prim.Native.Nat.{ℕ, zero, suc, _+_, _-_, _≤_, _<_}
+use Prim.Native.Nat.{ℕ, suc, _+_, _-_, _≤_, _<_}
 use native.Mathlib.Numerals.{add-one}
 use native.Mathlib.Omega.{arith}
 use lib.Dec.{eqb}
@@ -11,7 +11,6 @@ use lib.ListN.{length, getD, drop, length-drop}
 use lib.Seq.{drop-cons, drop-drop}
 use borrow.Author.Tests.{eq-eqb, ne-eqb, eqb-true}
 use Rattle.script.specs.declared.number.Field.{Field}
-use Rattle.script.specs.declared.number.Number.{Number}
 use Rattle.script.specs.declared.number.Number.the-variants.{Parsed, NoNumber}
 use Rattle.script.specs.declared.request.Numbers.{Numbers}
 use Rattle.script.specs.declared.request.Numbers.the-variants.{Zero, Other}

@@ -3,3 +3,4 @@ pub mod Forms
 pub mod Digits
 pub mod Fields
 pub mod Puts
+pub mod Spelling

@@ -1,8 +1,8 @@
 -- Text after text is one text, and the decimal digits of a number: how many, one by one, and read back. Assumes nothing.
-use mathlib.Core.Path.{_≡_, refl, sym, ap, _∙_}
+use mathlib.Core.Path.{_≡_, refl, ap, _∙_}
 use mathlib.Core.Bool.{Bool, true, false, cond, _&&_}
 use mathlib.Core.List.{List, [], _∷_, _++_}
-use mathlib.Core.Option.{Option, none, some}
+use mathlib.Core.Option.{some}
 use Prim.Native.Nat.{ℕ, zero, suc, _+_, _-_, _*_, _/_, _%_, _^_, _≤_, _<_}
 use native.Mathlib.Nat.{add-zero, pow-suc}
 use native.Mathlib.Omega.{arith}
@@ -131,6 +131,10 @@ says (suc k) n h = go (ltb n 10) refl (says k (n / 10) (tenth n (suc k) h))
     go : (b : Bool) → ltb n 10 ≡ b → Says (n / 10) (decimalWithin (suc k) (n / 10)) → Says n (cond b ((48 + n) ∷ []) (decimalWithin (suc k) (n / 10) ++ (48 + n % 10) ∷ []))
     go true p rest = says-digit n (ltb-true n 10 p)
     go false p rest = says-more n (decimalWithin (suc k) (n / 10)) rest
+
+pub decimal-digits : (n : ℕ) → n < 2 ^ 64 → digitsOnly (decimal n) ≡ true
+unfolding decimal
+decimal-digits n h = says 19 n (omega arith) .digits
 
 -- the text of a number is a number, the same
 pub decimal-read-back : (n : ℕ) → n < 2 ^ 64 → numberOf (decimal n) ≡ some n

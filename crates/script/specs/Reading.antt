@@ -1,14 +1,14 @@
 -- How `parse_line` goes about it: from the left, a field at a time. A reader need not believe any of it; the promise is in Line.antt.
-use mathlib.Core.Bool.{Bool, true, cond, _&&_}
+use mathlib.Core.Bool.{cond, _&&_}
 use mathlib.Core.List.{List, [], _∷_}
 use Prim.Native.Nat.{ℕ, _+_, _-_, _*_, _^_}
-use lib.Dec.{eqb, leb, ltb}
+use lib.Dec.{eqb, ltb}
 use lib.ListN.{length, drop}
 use Rattle.script.specs.declared.number.Number.{Number}
 use Rattle.script.specs.declared.number.Number.the-variants.{Parsed, NoNumber}
 use Rattle.script.specs.declared.number.Digits.{Digits}
 use Rattle.script.specs.declared.number.Digits.the-variants.{Value, NoDigit}
-use Rattle.script.specs.Line.{isDigit, digitsOnly, valueAfter, isNumber, fields}
+use Rattle.script.specs.Line.{isDigit, valueAfter, isNumber, fields}
 
 -- the first field
 unfoldable pub firstField : List ℕ → List ℕ

@@ -2,7 +2,6 @@
 use mathlib.Core.Bool.{cond}
 use Prim.Native.Nat.{ℕ}
 use lib.Dec.{eqb, leb}
-use Rattle.register.specs.declared.frame.AccessWidth.{AccessWidth}
 use Rattle.register.specs.declared.frame.AccessWidth.the-variants.{Byte, Word, Dword, Qword}
 use Rattle.script.specs.declared.request.Access.{Access}
 use Rattle.script.specs.declared.request.Store.{Store}

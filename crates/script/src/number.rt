@@ -1,8 +1,6 @@
 // A decimal number in a line.
-ghost use mathlib.Core.Bool.{cond};
 ghost use mathlib.Core.Path.{_≡_};
 ghost use Prim.Native.Nat.{_≤_};
-ghost use lib.Dec.{ltb};
 ghost use lib.ListN.{length};
 ghost use Rattle.script.specs.Reading.{digitAfter, endedAt, numberAt};
 

@@ -1,9 +1,9 @@
 -- `script::number_at` meets its contract: at each turn the digits so far and what is left of the field give the field's number. Assumes nothing.
-use mathlib.Core.Path.{_≡_, refl, sym, ap, _∙_}
-use Prim.Native.Nat.{ℕ, _+_, _-_, _^_, _≤_, _<_}
+use mathlib.Core.Path.{_≡_, refl, sym, _∙_}
+use Prim.Native.Nat.{_-_, _^_, _≤_, _<_}
 use lib.ListN.{length, getD, drop}
 use borrow.Author.Needs.{needs}
-use Rattle.script.proofs.Digits.{reading, readOn, at-byte, at-space, at-end, digit-fits, number-none, number-ended}
+use Rattle.script.proofs.Digits.{reading, at-byte, at-space, at-end, digit-fits, number-none, number-ended}
 use Rattle.script.proofs.number.number_at.Statement.{statement}
 use Rattle.script.proofs.number.number_at.Tie as tie
 

@@ -1,7 +1,6 @@
 -- `script::setup` meets its contract. Assumes nothing.
 use Rattle.script.proofs.Forms.{not-two}
 use borrow.Author.Needs.{needs}
-use mathlib.Core.Path.{_≡_}
 use Rattle.script.proofs.request.setup.Statement.{statement}
 use Rattle.script.proofs.request.setup.Tie as tie
 
