@@ -61,6 +61,11 @@ fn readings() {
 }
 
 #[test]
+fn lines_of_every_form_and_of_none() {
+    replay("lines.list");
+}
+
+#[test]
 fn differences() {
     replay("differences.list");
 }
