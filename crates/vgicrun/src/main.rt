@@ -7,6 +7,7 @@ ghost use lib.ListN.{length};
 ghost use Rattle.runner.specs.Runner.{Begun, Went};
 use libc::STDIN_FILENO;
 use libc::STDOUT_FILENO;
+use runner::KEPT;
 use runner::answer_line;
 use runner::feed;
 
@@ -97,7 +98,7 @@ fn run(words: &mut [u32], line: &mut [u8], block: &mut [u8], out: &mut [u8])
 // The words are those of the largest controller: 8 vCPUs, limit 1020. Zeros are no controller.
 fn main() {
     let mut words = [0u32; 3447];
-    let mut line = [0u8; 81];
+    let mut line = [0u8; KEPT];
     let mut block = io::large_buffer();
     let mut out = io::large_buffer();
     run(&mut words, &mut line, &mut block, &mut out);
