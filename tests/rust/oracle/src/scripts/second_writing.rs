@@ -43,7 +43,7 @@ fn assert_same_interface(own: &RedistributorState, second: &Gic, vcpu: usize) {
     assert_eq!(u64::from(cpu.v2_priority_mask().raw()), second.pmr[vcpu]);
     assert_eq!(u64::from(cpu.v2_binary_point()), second.bpr[vcpu]);
     let stack = cpu.active().iter();
-    let stack = stack.map(|(intid, priority)| (u64::from(intid.raw()), priority.raw()));
+    let stack = stack.map(|(number, priority)| (u64::from(*number), priority.raw()));
     assert!(stack.eq(second.stack[vcpu].iter().copied()));
     assert_eq!(own.sources, second.sources[16 * vcpu..][..16]);
 }

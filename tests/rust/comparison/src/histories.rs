@@ -1,0 +1,150 @@
+//! Histories from setup on: the scripts' scenes, every place at every width in the midst of them, and a full stack.
+use crate::{
+    Difference, Library,
+    pair::Pair,
+    request::{Place, Request},
+};
+use oracle::{
+    RegisterRegion::{self, CpuInterface, Distributor},
+    lines,
+    machine::Call,
+    scripts::{Histories, random::Random},
+    words::{size, within_limits},
+};
+
+/// Widths that are none; some would be, if they were cut to fewer bits.
+const NO_WIDTHS: [u64; 9] = [0, 3, 5, 6, 7, 16, (1 << 32) + 4, 1 << 63, u64::MAX];
+
+/// Scenes, and what plays in them.
+pub struct Scenes {
+    random: Random,
+    histories: Histories,
+}
+
+impl Scenes {
+    pub fn new(seed: u64) -> Self {
+        Self {
+            random: Random::new(!seed),
+            histories: Histories::new(seed),
+        }
+    }
+
+    /// So many calls of the histories.
+    pub fn play<L: Library>(&mut self, pair: &mut Pair<L>, calls: u64) -> Result<(), Difference> {
+        let end = pair.tally.calls + calls;
+        while pair.tally.calls < end {
+            self.step(pair)?;
+        }
+        Ok(())
+    }
+
+    /// The next call; at times before it the same at no width.
+    fn step<L: Library>(&mut self, pair: &mut Pair<L>) -> Result<(), Difference> {
+        let Some(call) = lines::parse(&self.histories.line()) else {
+            return Ok(());
+        };
+        if let Call::Setup { count, limit } = call
+            && within_limits(count, limit)
+        {
+            self.lend(pair, count as usize, limit as usize)?;
+        }
+        if self.random.percent(2) {
+            let width = self.random.pick(&NO_WIDTHS);
+            pair.call(&Request::from(call).at_width(width))?;
+        }
+        let answer = pair.call(&call.into())?;
+        self.histories.see(&call, &answer);
+        Ok(())
+    }
+
+    /// Words with anything in them, as many as are needed or some more; at times too few first.
+    fn lend<L: Library>(
+        &mut self,
+        pair: &mut Pair<L>,
+        count: usize,
+        limit: usize,
+    ) -> Result<(), Difference> {
+        let enough = size(count, limit);
+        if self.random.percent(30) {
+            let few = self
+                .random
+                .pick(&[0, 1, 2, 3, 99, enough - 255, enough - 1]);
+            pair.lend(self.words(few));
+            pair.call(&Request::Setup {
+                count: count as u64,
+                limit: limit as u64,
+            })?;
+        }
+        let more = self.random.pick(&[0, 0, 0, 1, 8]);
+        pair.lend(self.words(enough + more));
+        Ok(())
+    }
+
+    fn words(&mut self, length: usize) -> Vec<u32> {
+        (0..length).map(|_| self.random.number() as u32).collect()
+    }
+
+    /// Every offset of both frames, and some past them, at each width and at one that is none, while a history goes on.
+    pub fn sweep<L: Library>(&mut self, pair: &mut Pair<L>, calls: u64) -> Result<(), Difference> {
+        let end = pair.tally.calls + calls;
+        let all = (0..0x1010).map(|offset| (Distributor, offset));
+        let mut all = all
+            .chain((0..0x2010).map(|offset| (CpuInterface, offset)))
+            .cycle();
+        while pair.tally.calls < end {
+            let (region, offset) = all.next().expect("a cycle");
+            self.place(pair, region, offset)?;
+            for _ in 0..8 {
+                self.step(pair)?;
+            }
+        }
+        Ok(())
+    }
+
+    fn place<L: Library>(
+        &mut self,
+        pair: &mut Pair<L>,
+        region: RegisterRegion,
+        offset: u64,
+    ) -> Result<(), Difference> {
+        for width in [1, 2, 4, 8, self.random.pick(&NO_WIDTHS)] {
+            let count = u64::from(pair.words().first().copied().unwrap_or(0));
+            let vcpu = self
+                .random
+                .pick(&[0, 1, 2, count.wrapping_sub(1), count, 8, u64::MAX]);
+            let at = Place {
+                region,
+                vcpu,
+                offset,
+                width,
+            };
+            let value = self.random.number() & self.random.number();
+            pair.call(&Request::Write(at, value))?;
+            pair.call(&Request::Read(at))?;
+        }
+        Ok(())
+    }
+}
+
+/// One SGI taken 255 times, each time more urgent and cancelled under service, and then ended 255 times: the stack full from setup on.
+pub fn deepest<L: Library>(pair: &mut Pair<L>) -> Result<(), Difference> {
+    pair.lend(vec![u32::MAX; size(2, 40)]);
+    let mut line = |line: String| {
+        let call = lines::parse(line.as_bytes()).expect("a line of the runner");
+        pair.call(&call.into())
+    };
+    for start in ["n 2 40", "D 0 0 4 1", "C 1 0 4 1", "C 1 4 4 255"] {
+        line(start.into())?;
+    }
+    for priority in (0..255).rev() {
+        line(format!("D 1 1027 1 {priority}"))?; // IPRIORITYR of SGI 3
+        line("D 1 3840 4 33554435".into())?; // SGIR, to oneself
+        line("c 1 12 4".into())?;
+        line("D 1 896 4 8".into())?; // ICACTIVER
+    }
+    for _ in 0..256 {
+        line("c 1 20 4".into())?; // RPR
+        line("C 1 16 4 3".into())?;
+    }
+    Ok(())
+}
