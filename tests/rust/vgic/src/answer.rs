@@ -68,9 +68,9 @@ impl Refusal {
         self as u8
     }
 
-    /// What has this number.
-    const fn from_number(number: u8) -> Option<Self> {
-        Some(match number {
+    /// What has this number; the library gives no other.
+    fn from_number(number: u8) -> Self {
+        match number {
             1 => Self::Access,
             2 => Self::Width,
             3 => Self::Vcpu,
@@ -79,8 +79,8 @@ impl Refusal {
             6 => Self::BrokenState,
             7 => Self::FullStack,
             8 => Self::Input,
-            _ => return None,
-        })
+            _ => unreachable!("no refusal has the number {number}"),
+        }
     }
 }
 
@@ -104,17 +104,15 @@ impl Error for Refusal {}
 /// Takes the C face's one number apart.
 pub(crate) fn unpacked(answer: u64) -> Result<Reply, Refusal> {
     let [low @ .., a, b, wake, refusal] = answer.to_le_bytes();
-    match Refusal::from_number(refusal) {
-        Some(refusal) => Err(refusal),
-        None => Ok(Reply {
-            value: u32::from_le_bytes(low),
-            wake: WakeSet(wake),
-            retired: match u16::from_le_bytes([a, b]) {
-                1023 => None,
-                number => Some(IntId(number.into())),
-            },
-        }),
+    if refusal != 0 {
+        return Err(Refusal::from_number(refusal));
     }
+    let retired = IntId(u16::from_le_bytes([a, b]).into());
+    Ok(Reply {
+        value: u32::from_le_bytes(low),
+        wake: WakeSet(wake),
+        retired: (retired != IntId::SPURIOUS).then_some(retired),
+    })
 }
 
 #[cfg(test)]

@@ -55,7 +55,12 @@ pub use answer::{Refusal, Reply, WakeSet};
 #[derive(Clone, Copy, Debug, PartialEq, Eq, PartialOrd, Ord, Hash)]
 pub struct GicVcpuId(pub u64);
 
-/// An interrupt's number: SGIs are 0 to 15, PPIs 16 to 31, SPIs from 32.
+/// An interrupt's number: SGIs are 0 to 15, PPIs 16 to 31, SPIs from 32. It is never taken for a vCPU's:
+///
+/// ```compile_fail,E0308
+/// use vgic::{Gic, GicVcpuId, IntId};
+/// let _ = Gic::lend(&mut []).pulse(IntId(33), GicVcpuId(0));
+/// ```
 #[derive(Clone, Copy, Debug, PartialEq, Eq, PartialOrd, Ord, Hash)]
 pub struct IntId(pub u64);
 
