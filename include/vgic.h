@@ -41,25 +41,25 @@ enum vgic_refusal {
 };
 
 /* Why the call was refused; VGIC_ACCEPTED if it was not. */
-static inline enum vgic_refusal vgic_refusal(vgic_answer answer)
+static inline enum vgic_refusal vgic_answer_refusal(vgic_answer answer)
 {
     return (enum vgic_refusal)(answer >> 56);
 }
 
 /* What was read; 0 for all but reads. */
-static inline uint32_t vgic_value(vgic_answer answer)
+static inline uint32_t vgic_answer_value(vgic_answer answer)
 {
     return (uint32_t)answer;
 }
 
 /* Whom the call wakes, a bit for each vCPU: those whose read of IAR gave nothing before it, and gives an interrupt now. */
-static inline uint8_t vgic_wake(vgic_answer answer)
+static inline uint8_t vgic_answer_wake(vgic_answer answer)
 {
     return (uint8_t)(answer >> 48);
 }
 
 /* The interrupt whose service the call ended; VGIC_SPURIOUS if it ended none. */
-static inline uint16_t vgic_retired(vgic_answer answer)
+static inline uint16_t vgic_answer_retired(vgic_answer answer)
 {
     return (uint16_t)(answer >> 32);
 }

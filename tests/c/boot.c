@@ -18,8 +18,8 @@ static void expect(const char *line, vgic_answer answer, const char *expected)
 {
     char given[64];
 
-    snprintf(given, sizeof given, "%d %" PRIu32 " %d %d", (int)vgic_refusal(answer), vgic_value(answer), vgic_wake(answer),
-             vgic_retired(answer));
+    snprintf(given, sizeof given, "%d %" PRIu32 " %d %d", (int)vgic_answer_refusal(answer), vgic_answer_value(answer),
+             vgic_answer_wake(answer), vgic_answer_retired(answer));
     printf("%s: %s\n", line, given);
     if (strcmp(given, expected) != 0) {
         printf("boot: expected %s\n", expected);

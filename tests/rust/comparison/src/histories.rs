@@ -7,7 +7,7 @@ use crate::{
 use oracle::{
     RegisterRegion::{self, CpuInterface, Distributor},
     lines,
-    machine::Call,
+    machine::{Answer, Call},
     scripts::{Histories, random::Random},
     words::{size, within_limits},
 };
@@ -126,25 +126,72 @@ impl Scenes {
     }
 }
 
+/// A call by its line, which is one.
+fn line<L: Library>(pair: &mut Pair<L>, line: &str) -> Result<Answer, Difference> {
+    let call = lines::parse(line.as_bytes()).expect("a line of the runner");
+    pair.call(&call.into())
+}
+
 /// One SGI taken 255 times, each time more urgent and cancelled under service, and then ended 255 times: the stack full from setup on.
 pub fn deepest<L: Library>(pair: &mut Pair<L>) -> Result<(), Difference> {
     pair.lend(vec![u32::MAX; size(2, 40)]);
-    let mut line = |line: String| {
-        let call = lines::parse(line.as_bytes()).expect("a line of the runner");
-        pair.call(&call.into())
-    };
     for start in ["n 2 40", "D 0 0 4 1", "C 1 0 4 1", "C 1 4 4 255"] {
-        line(start.into())?;
+        line(pair, start)?;
     }
     for priority in (0..255).rev() {
-        line(format!("D 1 1027 1 {priority}"))?; // IPRIORITYR of SGI 3
-        line("D 1 3840 4 33554435".into())?; // SGIR, to oneself
-        line("c 1 12 4".into())?;
-        line("D 1 896 4 8".into())?; // ICACTIVER
+        line(pair, &format!("D 1 1027 1 {priority}"))?; // IPRIORITYR of SGI 3
+        line(pair, "D 1 3840 4 33554435")?; // SGIR, to oneself
+        line(pair, "c 1 12 4")?;
+        line(pair, "D 1 896 4 8")?; // ICACTIVER
     }
     for _ in 0..256 {
-        line("c 1 20 4".into())?; // RPR
-        line("C 1 16 4 3".into())?;
+        line(pair, "c 1 20 4")?; // RPR
+        line(pair, "C 1 16 4 3")?;
     }
+    Ok(())
+}
+
+/// Counts and limits, in an order that comes to each of them after so many: setup, and the last interrupt taken by the last vCPU.
+pub fn shapes<L: Library>(pair: &mut Pair<L>, seed: u64, calls: u64) -> Result<(), Difference> {
+    const LIMITS: u64 = 1020 - 32 + 1;
+    const STEP: u64 = 2777; // without a common divisor
+    let end = pair.tally.calls + calls;
+    let mut at = seed % (8 * LIMITS);
+    while pair.tally.calls < end {
+        shape(pair, 1 + at % 8, 32 + at / 8)?;
+        at = (at + STEP) % (8 * LIMITS);
+    }
+    Ok(())
+}
+
+fn shape<L: Library>(pair: &mut Pair<L>, count: u64, limit: u64) -> Result<(), Difference> {
+    let (vcpu, last) = (count - 1, limit - 1);
+    let word = last / 32 * 4;
+    pair.lend(vec![0x5a5a_5a5a; size(count as usize, limit as usize) + 1]);
+    for start in [
+        "D 0 0 4 1".into(),
+        format!("C {vcpu} 0 4 1"),
+        format!("C {vcpu} 4 4 255"),
+    ] {
+        line(pair, &start)?; // refused: there is no state yet
+    }
+    line(pair, &format!("n {count} {limit}"))?;
+    line(pair, "d 0 4 4")?; // TYPER
+    line(pair, "D 0 0 4 1")?;
+    line(pair, &format!("C {vcpu} 0 4 1"))?;
+    line(pair, &format!("C {vcpu} 4 4 255"))?;
+    line(pair, &format!("D {vcpu} {} 1 64", 0x400 + last))?; // its priority
+    line(
+        pair,
+        &format!("D {vcpu} {} 4 4294967295", 0x800 + last / 4 * 4),
+    )?; // targets, also past the limit
+    line(pair, &format!("d {vcpu} {} 4", 0x800 + last / 4 * 4))?;
+    line(pair, &format!("D {vcpu} {} 4 4294967295", 0x100 + word))?; // enables
+    line(pair, &format!("l {vcpu} {last} 1"))?;
+    line(pair, &format!("p {vcpu} {limit}"))?;
+    let taken = line(pair, &format!("c {vcpu} 12 4"))?;
+    line(pair, &format!("D {vcpu} {} 4 4294967295", 0x200 + word))?; // pending
+    line(pair, &format!("C {vcpu} 16 4 {}", taken.value))?;
+    line(pair, &format!("D {vcpu} 3840 4 16777221"))?; // SGIR, to all others
     Ok(())
 }

@@ -36,9 +36,13 @@ struct Shape {
 
 impl Shape {
     fn any(random: &mut Random) -> Self {
+        let limit = match random.below(20) {
+            0 => 32 + random.below(989) as usize,
+            _ => random.pick(&[32, 33, 34, 40, 40, 40, 48, 63, 64, 65, 96, 300, 1019, 1020]),
+        };
         Self {
             count: random.pick(&[1, 1, 1, 1, 2, 2, 2, 3, 3, 4, 5, 6, 7, 8]),
-            limit: random.pick(&[32, 33, 34, 40, 40, 40, 48, 63, 64, 65, 96, 300, 1019, 1020]),
+            limit,
         }
     }
 

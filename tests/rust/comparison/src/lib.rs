@@ -45,11 +45,12 @@ pub fn run<L: Library>(
         Ok(())
     };
     part("a full stack", &histories::deepest)?;
-    part("histories", &|pair| {
-        Scenes::new(seed).play(pair, calls * 6 / 10)
-    })?;
+    part("histories", &|pair| Scenes::new(seed).play(pair, calls / 2))?;
     part("every place", &|pair| {
         Scenes::new(seed).sweep(pair, calls * 15 / 100)
+    })?;
+    part("every shape", &|pair| {
+        histories::shapes(pair, seed, calls / 10)
     })?;
     part("lent words", &|pair| lent::play(pair, seed, calls / 4))?;
     Ok(tallies)

@@ -6,7 +6,9 @@ use crate::{
     tally::Tally,
 };
 use oracle::{
+    RegisterRegion::{CpuInterface, Distributor},
     machine::{Answer, Machine},
+    register::{GICC_EOIR, GICC_IAR, GICD_ITARGETSR},
     words::{HEADER, STACK, VCPU, size, within_limits},
 };
 
@@ -14,6 +16,8 @@ use oracle::{
 type Spoil = fn(&Request, &[u32], &mut u64, &mut [u32]);
 
 struct StandIn(Spoil);
+
+const CALLS: u64 = 50_000;
 
 impl Library for StandIn {
     fn state_words(&self, count: u64, limit: u64) -> u64 {
@@ -68,23 +72,23 @@ fn put(words: &mut [u32], after: &[u32]) {
 
 #[test]
 fn what_is_equal_passes() {
-    let tallies = run(&StandIn(|_, _, _, _| {}), 1, 100_000);
+    let tallies = run(&StandIn(|_, _, _, _| {}), 1, CALLS);
     let tallies = tallies.unwrap_or_else(|case| panic!("{}", case.text()));
     for (name, tally) in &tallies[1..] {
-        assert!(tally.calls >= 15_000, "{name}: {tally}");
-        assert!(tally.acknowledges > 100, "{name}: {tally}");
+        assert!(tally.calls >= CALLS / 10, "{name}: {tally}");
+        assert!(tally.acknowledges > 50, "{name}: {tally}");
         assert!(tally.retirements > 20, "{name}: {tally}");
-        assert!(tally.wakes > 100, "{name}: {tally}");
+        assert!(tally.wakes > 50, "{name}: {tally}");
     }
     let mut all = Tally::default();
     tallies.into_iter().for_each(|(_, tally)| all += tally);
-    assert!(all.refusals.iter().all(|count| *count > 50), "{all}");
+    assert!(all.refusals.iter().all(|count| *count > 20), "{all}");
 }
 
 /// Found, and told by at most so many calls.
 fn found(at_most: usize, spoil: Spoil) {
     let library = StandIn(spoil);
-    let case = run(&library, 1, 100_000).expect_err("a spoiled library");
+    let case = run(&library, 1, CALLS).expect_err("a spoiled library");
     let case = case.shrunk(&library);
     assert!(case.requests.len() <= at_most, "{}", case.text());
 }
@@ -168,6 +172,63 @@ fn a_rule_that_only_lent_words_show_is_found() {
         let second = before.get(HEADER + VCPU + 3).copied().unwrap_or(0);
         if before.first() == Some(&2) && second > 255 && *given >> 56 == 6 {
             *given = 1023 << 32;
+        }
+    });
+}
+
+/// The vCPU's first word, and its stack's.
+fn places(words: &[u32], vcpu: u64) -> (usize, usize) {
+    let (count, limit, vcpu) = (words[0] as usize, words[1] as usize, vcpu as usize);
+    let stacks = size(count, limit) - STACK * count;
+    (HEADER + VCPU * vcpu, stacks + STACK * vcpu)
+}
+
+// What document 01 calls tempting and wrong.
+
+#[test]
+fn an_sgis_pending_bit_cleared_at_its_first_acknowledge_is_found() {
+    found(12, |request, _, given, words| {
+        if let Request::Read(at) = request
+            && (at.region, at.offset, *given >> 56) == (CpuInterface, GICC_IAR, 0)
+            && *given & 1023 < 16
+        {
+            let number = *given as usize & 1023;
+            words[places(words, at.vcpu).0 + 20 + number] &= !2;
+        }
+    });
+}
+
+#[test]
+fn a_target_that_does_not_exist_is_found() {
+    found(3, |request, _, given, words| {
+        if let Request::Write(at, value) = request
+            && (at.region, at.width, *given >> 56) == (Distributor, 1, 0)
+            && (GICD_ITARGETSR + 32..GICD_ITARGETSR + u64::from(words[1])).contains(&at.offset)
+        {
+            let number = (at.offset - GICD_ITARGETSR) as usize - 32;
+            let spis = HEADER + VCPU * words[0] as usize;
+            words[spis + number] |= (*value as u32 & 0xff) << 16;
+        }
+    });
+}
+
+#[test]
+fn an_older_entry_removed_is_found() {
+    found(30, |request, before, given, words| {
+        if let Request::Write(at, value) = request
+            && (at.region, at.offset, *given >> 56) == (CpuInterface, GICC_EOIR, 0)
+            && at.vcpu < u64::from(words[0])
+        {
+            let (own, stack) = places(words, at.vcpu);
+            let depth = words[own + 3] as usize;
+            let served = &mut words[stack..stack + depth];
+            let same = |word: &u32| u64::from(*word) & 1023 == *value & 1023;
+            let older = served.iter().position(same);
+            if let (Some(index), true) = (older, before[own + 3] == depth as u32) {
+                served[index..].rotate_left(1);
+                served[depth - 1] = 0;
+                words[own + 3] -= 1;
+            }
         }
     });
 }
