@@ -28,8 +28,8 @@ fn assert_same_state(gic: &GicV3Controller, second: &Gic) {
     let private = state
         .redistributors
         .iter()
-        .flat_map(|(_, own)| &own.private);
-    let all = private.chain(&state.distributor.spis);
+        .flat_map(|(_, own)| own.private.iter());
+    let all = private.chain(state.distributor.spis.iter());
     let shown = all.map(|it| (access::parts(&it.record), it.owner.map(number)));
     assert!(shown.eq(second.records.iter().map(|r| (r.parts(), r.owner))));
     for (vcpu, (_, own)) in state.redistributors.iter().enumerate() {
@@ -97,8 +97,8 @@ fn scramble(random: &mut Random, state: &mut State, second: &mut Gic) {
     second.on = random.percent(90);
     state.distributor.set_enabled(second.on);
     let vcpus = state.redistributors.iter_mut();
-    let private = vcpus.flat_map(|(_, own)| &mut own.private);
-    let all = private.chain(&mut state.distributor.spis);
+    let private = vcpus.flat_map(|(_, own)| own.private.iter_mut());
+    let all = private.chain(state.distributor.spis.iter_mut());
     for (it, record) in all.zip(&mut second.records) {
         let (parts, owner) = any_record(random, it.record.intid());
         it.record = access::make(&parts);

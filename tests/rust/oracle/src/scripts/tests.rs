@@ -185,8 +185,8 @@ fn note_state(tally: &mut Tally, gic: &GicV3Controller) {
             tally.note("an SGI from three at once");
         }
     }
-    let private = vcpus().flat_map(|own| &own.private);
-    for it in private.chain(&state.distributor.spis) {
+    let private = vcpus().flat_map(|own| own.private.iter());
+    for it in private.chain(state.distributor.spis.iter()) {
         note_interrupt(tally, it);
     }
 }
