@@ -1,4 +1,4 @@
-//! Histories from setup on: the scripts' scenes, every place at every width in the midst of them, and a full stack.
+//! Histories from setup on: the scripts' scenes, every place at every width in the midst of them, every count and limit, a full stack.
 use crate::{
     Difference, Library,
     pair::Pair,
@@ -166,31 +166,26 @@ pub fn shapes<L: Library>(pair: &mut Pair<L>, seed: u64, calls: u64) -> Result<(
 
 fn shape<L: Library>(pair: &mut Pair<L>, count: u64, limit: u64) -> Result<(), Difference> {
     let (vcpu, last) = (count - 1, limit - 1);
-    let word = last / 32 * 4;
+    let (bits, bytes, all) = (last / 32 * 4, last / 4 * 4, u32::MAX);
     pair.lend(vec![0x5a5a_5a5a; size(count as usize, limit as usize) + 1]);
+    line(pair, "D 0 0 4 1")?; // no state yet
     for start in [
+        format!("n {count} {limit}"),
+        "d 0 4 4".into(), // TYPER
         "D 0 0 4 1".into(),
         format!("C {vcpu} 0 4 1"),
         format!("C {vcpu} 4 4 255"),
+        format!("D {vcpu} {} 1 64", 0x400 + last), // its priority
+        format!("D {vcpu} {} 4 {all}", 0x800 + bytes), // targets, also past the limit
+        format!("d {vcpu} {} 4", 0x800 + bytes),
+        format!("D {vcpu} {} 4 {all}", 0x100 + bits), // enables
+        format!("l {vcpu} {last} 1"),
+        format!("p {vcpu} {limit}"),
     ] {
-        line(pair, &start)?; // refused: there is no state yet
+        line(pair, &start)?;
     }
-    line(pair, &format!("n {count} {limit}"))?;
-    line(pair, "d 0 4 4")?; // TYPER
-    line(pair, "D 0 0 4 1")?;
-    line(pair, &format!("C {vcpu} 0 4 1"))?;
-    line(pair, &format!("C {vcpu} 4 4 255"))?;
-    line(pair, &format!("D {vcpu} {} 1 64", 0x400 + last))?; // its priority
-    line(
-        pair,
-        &format!("D {vcpu} {} 4 4294967295", 0x800 + last / 4 * 4),
-    )?; // targets, also past the limit
-    line(pair, &format!("d {vcpu} {} 4", 0x800 + last / 4 * 4))?;
-    line(pair, &format!("D {vcpu} {} 4 4294967295", 0x100 + word))?; // enables
-    line(pair, &format!("l {vcpu} {last} 1"))?;
-    line(pair, &format!("p {vcpu} {limit}"))?;
     let taken = line(pair, &format!("c {vcpu} 12 4"))?;
-    line(pair, &format!("D {vcpu} {} 4 4294967295", 0x200 + word))?; // pending
+    line(pair, &format!("D {vcpu} {} 4 {all}", 0x200 + bits))?; // pending
     line(pair, &format!("C {vcpu} 16 4 {}", taken.value))?;
     line(pair, &format!("D {vcpu} 3840 4 16777221"))?; // SGIR, to all others
     Ok(())

@@ -47,7 +47,7 @@ pub fn run<L: Library>(
     part("a full stack", &histories::deepest)?;
     part("histories", &|pair| Scenes::new(seed).play(pair, calls / 2))?;
     part("every place", &|pair| {
-        Scenes::new(seed).sweep(pair, calls * 15 / 100)
+        Scenes::new(!seed).sweep(pair, calls * 15 / 100)
     })?;
     part("every shape", &|pair| {
         histories::shapes(pair, seed, calls / 10)

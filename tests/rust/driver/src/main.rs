@@ -5,7 +5,8 @@ use driver::Vgic;
 use std::{env, process::ExitCode};
 
 const SEED: u64 = 1;
-const CALLS: u64 = 1_000_000;
+/// Enough to come to every place of both frames, and to every count and limit.
+const CALLS: u64 = 1_500_000;
 
 fn main() -> ExitCode {
     let arguments = env::args().skip(1).map(|argument| argument.parse::<u64>());
