@@ -94,7 +94,7 @@ impl Scenes {
         while pair.tally.calls < end {
             let (region, offset) = all.next().expect("a cycle");
             self.place(pair, region, offset)?;
-            for _ in 0..8 {
+            for _ in 0..7 {
                 self.step(pair)?;
             }
         }
