@@ -19,13 +19,19 @@ const NO_WIDTHS: [u64; 9] = [0, 3, 5, 6, 7, 16, (1 << 32) + 4, 1 << 63, u64::MAX
 pub struct Scenes {
     random: Random,
     histories: Histories,
+    /// Large scenes are slow, and most of them are not played.
+    passed_over: bool,
 }
+
+/// The limit from which a scene is large.
+const LARGE: u64 = 200;
 
 impl Scenes {
     pub fn new(seed: u64) -> Self {
         Self {
             random: Random::new(!seed),
             histories: Histories::new(seed),
+            passed_over: false,
         }
     }
 
@@ -46,7 +52,13 @@ impl Scenes {
         if let Call::Setup { count, limit } = call
             && within_limits(count, limit)
         {
-            self.lend(pair, count as usize, limit as usize)?;
+            self.passed_over = limit >= LARGE && self.random.percent(75);
+            if !self.passed_over {
+                self.lend(pair, count as usize, limit as usize)?;
+            }
+        }
+        if self.passed_over {
+            return Ok(());
         }
         if self.random.percent(2) {
             let width = self.random.pick(&NO_WIDTHS);
