@@ -1,6 +1,6 @@
 -- A rule of a list, proved at all of its entries by one test that is computed, one entry after the other. Assumes nothing.
 use mathlib.Core.Path.{_≡_, _∙_, refl, ap, subst, sym}
-use mathlib.Core.Bool.{Bool, true, false, _&&_}
+use mathlib.Core.Bool.{Bool, true, _&&_}
 use mathlib.Core.List.{List, [], _∷_}
 use Prim.Native.Nat.{ℕ, zero, suc, _+_, _<_}
 use native.Mathlib.Nat.{add-zero, zero-add, add-suc, suc-add, le-of-suc-le-suc, not-suc-le-zero}

@@ -1,9 +1,11 @@
 -- An access to a frame: its widths and the refusals, by document 01, "The part that is ported" (limits) and "Refusal numbers".
-use mathlib.Core.Bool.{Bool, true, false, _&&_}
+use mathlib.Core.Bool.{Bool, true, false, cond, _&&_}
 use Prim.Native.Nat.{ℕ, _+_, _%_}
 use lib.Dec.{eqb, leb}
 use Rattle.register.specs.declared.frame.AccessWidth.{AccessWidth}
 use Rattle.register.specs.declared.frame.AccessWidth.the-variants.{Byte, Word, Dword, Qword}
+use Rattle.register.specs.declared.frame.DecodedWidth.{DecodedWidth}
+use Rattle.register.specs.declared.frame.DecodedWidth.the-variants.{Valid, Reserved}
 use Rattle.register.specs.declared.frame.Refusal.{Refusal}
 use Rattle.register.specs.declared.frame.Refusal.the-variants.{Access, Width, Vcpu, Limits, ShortState, BrokenState, FullStack, Input}
 
@@ -13,6 +15,14 @@ bytes Byte = 1
 bytes Word = 2
 bytes Dword = 4
 bytes Qword = 8
+
+-- ".. a call can be given no other"
+unfoldable pub decodedWidth : ℕ → DecodedWidth
+decodedWidth n =
+    cond (eqb n 1) (Valid Byte)
+    (cond (eqb n 2) (Valid Word)
+    (cond (eqb n 4) (Valid Dword)
+    (cond (eqb n 8) (Valid Qword) Reserved)))
 
 abbrev pub isDword : AccessWidth → Bool
 isDword Byte = false

@@ -1,6 +1,6 @@
 // What every frame has in common: the widths of an access, the refusals, and the test that an access lies in its frame.
 ghost use mathlib.Core.Path.{_≡_};
-ghost use Rattle.register.specs.Frame.{bytes, isDword, isQword, refusalNumber, aligned, inFrame};
+ghost use Rattle.register.specs.Frame.{decodedWidth, bytes, isDword, isQword, refusalNumber, aligned, inFrame};
 
 // The four widths of an access: no other can be given.
 pub enum AccessWidth {
@@ -8,6 +8,12 @@ pub enum AccessWidth {
     Word,
     Dword,
     Qword,
+}
+
+// What a number of bytes is: a width, or none.
+pub enum DecodedWidth {
+    Valid(AccessWidth),
+    Reserved,
 }
 
 // Why a call is refused, in the order of the refusals' numbers.
@@ -31,6 +37,18 @@ pub enum Refusal {
 }
 
 impl AccessWidth {
+    pub fn new(bytes: u64) -> DecodedWidth
+        ensures { λ r. ⌜ r ≡ decodedWidth bytes ⌝ }
+    {
+        match bytes {
+            1 => DecodedWidth::Valid(AccessWidth::Byte),
+            2 => DecodedWidth::Valid(AccessWidth::Word),
+            4 => DecodedWidth::Valid(AccessWidth::Dword),
+            8 => DecodedWidth::Valid(AccessWidth::Qword),
+            _ => DecodedWidth::Reserved,
+        }
+    }
+
     pub fn size(self) -> usize
         ensures { λ r. ⌜ r ≡ bytes self ⌝ }
     {

@@ -13,6 +13,7 @@ pub use distributor::DistributorAccess;
 pub use distributor::Place;
 pub use distributor::locate_distributor;
 pub use frame::AccessWidth;
+pub use frame::DecodedWidth;
 pub use frame::Refusal;
 pub use frame::validate_frame_access;
 pub use ranges::BitRegister;

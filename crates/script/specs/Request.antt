@@ -2,13 +2,13 @@
 use mathlib.Core.Bool.{cond}
 use Prim.Native.Nat.{ℕ}
 use lib.Dec.{eqb, leb}
-use Rattle.register.specs.declared.frame.AccessWidth.the-variants.{Byte, Word, Dword, Qword}
+use Rattle.register.specs.declared.frame.DecodedWidth.{DecodedWidth}
+use Rattle.register.specs.declared.frame.DecodedWidth.the-variants.{Valid, Reserved}
+use Rattle.register.specs.Frame.{decodedWidth}
 use Rattle.script.specs.declared.request.Access.{Access}
 use Rattle.script.specs.declared.request.Store.{Store}
 use Rattle.script.specs.declared.request.Numbers.{Numbers}
 use Rattle.script.specs.declared.request.Numbers.the-variants.{Zero, One, Two, Three, Four, Other}
-use Rattle.script.specs.declared.request.WidthField.{WidthField}
-use Rattle.script.specs.declared.request.WidthField.the-variants.{Bytes, NoWidth}
 use Rattle.script.specs.declared.request.AccessFields.{AccessFields}
 use Rattle.script.specs.declared.request.AccessFields.the-variants.{Reads, NoAccess}
 use Rattle.script.specs.declared.request.StoreFields.{StoreFields}
@@ -52,30 +52,21 @@ ofFour form other (Three a b c) = other
 ofFour form other (Four a b c d) = form a b c d
 ofFour form other Other = other
 
--- "so does a width field other than 1, 2, 4 or 8"
-unfoldable pub widthOf : ℕ → WidthField
-widthOf bytes =
-    cond (eqb bytes 1) (Bytes Byte)
-    (cond (eqb bytes 2) (Bytes Word)
-    (cond (eqb bytes 4) (Bytes Dword)
-    (cond (eqb bytes 8) (Bytes Qword)
-    NoWidth)))
-
--- `vcpu offset width`
-abbrev pub readAt : ℕ → ℕ → WidthField → AccessFields
-readAt vcpu offset (Bytes width) = Reads (record { vcpu = record { 0 = vcpu }; offset = offset; width = width })
-readAt vcpu offset NoWidth = NoAccess
+-- `vcpu offset width`; "so does a width field other than 1, 2, 4 or 8"
+abbrev pub readAt : ℕ → ℕ → DecodedWidth → AccessFields
+readAt vcpu offset (Valid width) = Reads (record { vcpu = record { 0 = vcpu }; offset = offset; width = width })
+readAt vcpu offset Reserved = NoAccess
 
 abbrev pub accessOf : Numbers → AccessFields
-accessOf = ofThree (λ vcpu offset width. readAt vcpu offset (widthOf width)) NoAccess
+accessOf = ofThree (λ vcpu offset width. readAt vcpu offset (decodedWidth width)) NoAccess
 
 -- `vcpu offset width value`
-abbrev pub writeAt : ℕ → ℕ → WidthField → ℕ → StoreFields
-writeAt vcpu offset (Bytes width) value = Writes (record { vcpu = record { 0 = vcpu }; offset = offset; width = width; value = value })
-writeAt vcpu offset NoWidth value = NoStore
+abbrev pub writeAt : ℕ → ℕ → DecodedWidth → ℕ → StoreFields
+writeAt vcpu offset (Valid width) value = Writes (record { vcpu = record { 0 = vcpu }; offset = offset; width = width; value = value })
+writeAt vcpu offset Reserved value = NoStore
 
 abbrev pub storeOf : Numbers → StoreFields
-storeOf = ofFour (λ vcpu offset width value. writeAt vcpu offset (widthOf width) value) NoStore
+storeOf = ofFour (λ vcpu offset width value. writeAt vcpu offset (decodedWidth width) value) NoStore
 
 abbrev pub asRead : (Access → Request) → AccessFields → Request
 asRead form (Reads access) = form access

@@ -1,9 +1,10 @@
 // What a line asks for, by its letter and the numbers after it.
 ghost use mathlib.Core.Path.{_≡_};
 ghost use Rattle.script.specs.declared.request.Request.the-variants.{ReadDistributor, WriteDistributor, ReadCpuInterface, WriteCpuInterface};
-ghost use Rattle.script.specs.Request.{withNumber, widthOf, accessOf, storeOf, setupOf, asRead, asWrite, levelOf, pulseOf, requestFor};
+ghost use Rattle.script.specs.Request.{withNumber, accessOf, storeOf, setupOf, asRead, asWrite, levelOf, pulseOf, requestFor};
 use interrupt::GicVcpuId;
 use register::AccessWidth;
+use register::DecodedWidth;
 
 // `n count limit`.
 pub struct Size {
@@ -60,11 +61,6 @@ pub enum Numbers {
     Other,
 }
 
-pub enum WidthField {
-    Bytes(AccessWidth),
-    NoWidth,
-}
-
 pub enum AccessFields {
     Reads(Access),
     NoAccess,
@@ -90,25 +86,13 @@ impl Numbers {
     }
 }
 
-fn width_of(bytes: u64) -> WidthField
-    ensures { λ r. ⌜ r ≡ widthOf bytes ⌝ }
-{
-    match bytes {
-        1 => WidthField::Bytes(AccessWidth::Byte),
-        2 => WidthField::Bytes(AccessWidth::Word),
-        4 => WidthField::Bytes(AccessWidth::Dword),
-        8 => WidthField::Bytes(AccessWidth::Qword),
-        _ => WidthField::NoWidth,
-    }
-}
-
 fn read_fields(numbers: Numbers) -> AccessFields
     ensures { λ r. ⌜ r ≡ accessOf numbers ⌝ }
 {
     let Numbers::Three(vcpu, offset, bytes) = numbers else {
         return AccessFields::NoAccess;
     };
-    let WidthField::Bytes(width) = width_of(bytes) else {
+    let DecodedWidth::Valid(width) = AccessWidth::new(bytes) else {
         return AccessFields::NoAccess;
     };
     AccessFields::Reads(Access {
@@ -124,7 +108,7 @@ fn write_fields(numbers: Numbers) -> StoreFields
     let Numbers::Four(vcpu, offset, bytes, value) = numbers else {
         return StoreFields::NoStore;
     };
-    let WidthField::Bytes(width) = width_of(bytes) else {
+    let DecodedWidth::Valid(width) = AccessWidth::new(bytes) else {
         return StoreFields::NoStore;
     };
     StoreFields::Writes(Store {

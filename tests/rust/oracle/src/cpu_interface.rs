@@ -12,8 +12,8 @@ pub struct CpuInterfaceState {
     control: u32,
     priority_mask: Priority,
     binary_point: u8,
-    /// What is served, the newest last.
-    active: Vec<(IntId, Priority)>,
+    /// What is served, the newest last, by number: a lent state may name one that does not decode.
+    active: Vec<(u32, Priority)>,
 }
 
 impl CpuInterfaceState {
@@ -69,16 +69,21 @@ impl CpuInterfaceState {
     }
 
     pub(crate) fn push_v2_active(&mut self, intid: IntId, priority: Priority) {
-        self.active.push((intid, priority));
+        self.active.push((intid.raw(), priority));
     }
 
     /// Pops the newest only if it is this number, and says whether it did.
     pub(crate) fn drop_v2_priority(&mut self, intid: IntId) -> bool {
-        self.active.pop_if(|newest| newest.0 == intid).is_some()
+        let newest = |entry: &mut (u32, Priority)| entry.0 == intid.raw();
+        self.active.pop_if(newest).is_some()
     }
 
-    #[cfg(test)]
-    pub(crate) fn active(&self) -> &[(IntId, Priority)] {
+    pub(crate) fn active(&self) -> &[(u32, Priority)] {
         &self.active
+    }
+
+    /// For lent words: any numbers and priorities at all.
+    pub(crate) fn set_active(&mut self, active: Vec<(u32, Priority)>) {
+        self.active = active;
     }
 }

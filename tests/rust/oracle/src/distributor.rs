@@ -1,24 +1,21 @@
 //! The Distributor's own state: its switch and the SPIs.
 use crate::{
-    IntId, InterruptRecord, SpiId, VgicError, VgicResult,
-    registers::{Bank, Interrupt},
+    InterruptRecord, SpiId, VgicError, VgicResult,
+    registers::{Bank, Interrupt, Interrupts},
 };
 
 #[derive(Clone, PartialEq)]
 pub(crate) struct DistributorState {
     enabled: bool,
     /// The SPIs, from number 32 to the limit.
-    pub spis: Vec<Interrupt>,
+    pub spis: Interrupts,
 }
 
 impl DistributorState {
     pub fn new(spi_limit: u32) -> Self {
-        let spi = |raw| SpiId::new(raw).expect("a limit of at most 1020");
         Self {
             enabled: false,
-            spis: (32..spi_limit)
-                .map(|raw| Interrupt::new(IntId::Spi(spi(raw))))
-                .collect(),
+            spis: Interrupts::new(32..spi_limit),
         }
     }
 

@@ -31,7 +31,7 @@ fn broken_stack(own: &RedistributorState, limit: u32) -> Option<String> {
     let served = own.cpu_interface().active();
     let well = served.windows(2).all(|pair| pair[0].1 > pair[1].1)
         && served.iter().all(|entry| entry.1 < Priority::IDLE)
-        && served.iter().all(|entry| entry.0.raw() < limit);
+        && served.iter().all(|entry| entry.0 < limit);
     (!well).then(|| format!("under service: {served:?}"))
 }
 

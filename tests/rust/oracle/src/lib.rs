@@ -2,7 +2,7 @@
 //!
 //! `controller`, `cpu_interface`, `distributor`, `redistributor` and `registers` are the stand-in, by document 01's rules and under the
 //! names that the two files use. `machine` makes calls of the running files and answers by document 01's numbers; `lines` is the runner's
-//! protocol over it; `scripts` makes histories.
+//! protocol over it; `scripts` makes histories; `words` is the state as docs/STATE.md lays it out.
 extern crate alloc;
 extern crate self as axvm_types;
 
@@ -17,6 +17,7 @@ mod registers;
 pub mod lines;
 pub mod machine;
 pub mod scripts;
+pub mod words;
 
 // What the two files take from their crate's root.
 pub use controller::{GicV3Controller, backend_result};

@@ -4,6 +4,7 @@ use crate::{
     RegisterRegion::{self, CpuInterface, Distributor},
     VgicError, VgicResult,
     register::{GICC_AIAR, GICC_IAR},
+    words,
 };
 use std::{error::Error, fmt, sync::OnceLock};
 
@@ -57,7 +58,7 @@ pub struct Machine {
 impl Answer {
     const OK: Self = Self::refused(0);
 
-    const fn refused(refusal: u8) -> Self {
+    pub const fn refused(refusal: u8) -> Self {
         Self {
             refusal,
             value: 0,
@@ -83,7 +84,7 @@ impl Call {
         (self.is_acknowledge() && given).then_some(answer.value)
     }
 
-    fn is_acknowledge(&self) -> bool {
+    pub fn is_acknowledge(&self) -> bool {
         matches!(
             self,
             Self::Read(Access {
@@ -110,7 +111,7 @@ impl Machine {
 
     /// A refused setup keeps the earlier state. The oracle lends its own state, which is never too short.
     fn setup(&mut self, count: u64, limit: u64) -> Answer {
-        if !(1..=8).contains(&count) || !(32..=1020).contains(&limit) {
+        if !words::within_limits(count, limit) {
             return Answer::refused(4);
         }
         self.controller = Some(GicV3Controller::new(count as usize, limit as u32));
@@ -119,6 +120,21 @@ impl Machine {
 
     pub fn controller(&self) -> Option<&GicV3Controller> {
         self.controller.as_ref()
+    }
+
+    /// A machine in the state that lent words mean; where they are no state, it answers 6.
+    pub fn lent(words: &[u32]) -> Self {
+        Self {
+            controller: words::read(words),
+        }
+    }
+
+    /// Its whole state as the words of docs/STATE.md; none before a setup.
+    pub fn write_words(&self, into: &mut Vec<u32>) {
+        into.clear();
+        if let Some(gic) = &self.controller {
+            words::write(&gic.state(), into);
+        }
     }
 }
 
@@ -163,7 +179,8 @@ fn settle(
         Err(error) => Answer::refused(refusal(&error)?),
         Ok(value) => Answer {
             value,
-            wake: if call.is_read() {
+            // What has not changed gives what it gave.
+            wake: if call.is_read() || !changed {
                 0
             } else {
                 wake_set(before, after)
@@ -175,11 +192,12 @@ fn settle(
 }
 
 /// Document 01's wake set: an IAR read would have given 1023 before, and gives another number now.
+/// Few have a number after it, so this is asked first.
 fn wake_set(before: &GicV3Controller, after: &GicV3Controller) -> u8 {
     let spurious = u64::from(SPURIOUS);
     (0..after.vcpu_count())
-        .filter(|&vcpu| try_acknowledge(before, vcpu) == Some(spurious))
         .filter(|&vcpu| try_acknowledge(after, vcpu).is_some_and(|number| number != spurious))
+        .filter(|&vcpu| try_acknowledge(before, vcpu) == Some(spurious))
         .fold(0, |set, vcpu| set | 1 << vcpu)
 }
 

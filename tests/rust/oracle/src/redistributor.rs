@@ -4,14 +4,14 @@ use crate::{
     Priority, SgiId, SpiId, VgicError, VgicResult,
     controller::Config,
     distributor::DistributorState,
-    registers::{self, Bank, Interrupt},
+    registers::{self, Bank, Interrupt, Interrupts},
 };
 
 #[derive(Clone, PartialEq)]
 pub(crate) struct RedistributorState {
     vcpu: GicVcpuId,
     /// Numbers 0 to 31.
-    pub private: Vec<Interrupt>,
+    pub private: Interrupts,
     pub sources: [u8; 16],
     cpu: CpuInterfaceState,
 }
@@ -25,10 +25,9 @@ impl QueuedDelivery {
 
 impl RedistributorState {
     pub fn new(vcpu: GicVcpuId) -> Self {
-        let private = |raw| IntId::new(raw).expect("a number below 32");
         Self {
             vcpu,
-            private: (0..32).map(|raw| Interrupt::new(private(raw))).collect(),
+            private: Interrupts::new(0..32),
             sources: [0; 16],
             cpu: CpuInterfaceState::new(),
         }

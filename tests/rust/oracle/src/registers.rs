@@ -4,6 +4,10 @@ use crate::{
     access,
     register::{BitRegister, Place},
 };
+use std::{
+    ops::{Deref, DerefMut, Range},
+    rc::Rc,
+};
 
 /// A record with what document 01 has in place of a delivery slot: who serves it.
 #[derive(Clone)]
@@ -41,6 +45,38 @@ impl Interrupt {
 impl PartialEq for Interrupt {
     fn eq(&self, other: &Self) -> bool {
         self.owner == other.owner && access::parts(&self.record) == access::parts(&other.record)
+    }
+}
+
+/// Interrupts in a row. Every call is tried on copies of the state, and these share them until one is changed.
+#[derive(Clone)]
+pub(crate) struct Interrupts(Rc<[Interrupt]>);
+
+impl Interrupts {
+    /// Fresh ones, of these numbers.
+    pub fn new(numbers: Range<u32>) -> Self {
+        let intid = |raw| IntId::new(raw).expect("a limit of at most 1020");
+        Self(numbers.map(|raw| Interrupt::new(intid(raw))).collect())
+    }
+}
+
+impl Deref for Interrupts {
+    type Target = [Interrupt];
+
+    fn deref(&self) -> &[Interrupt] {
+        &self.0
+    }
+}
+
+impl DerefMut for Interrupts {
+    fn deref_mut(&mut self) -> &mut [Interrupt] {
+        Rc::make_mut(&mut self.0)
+    }
+}
+
+impl PartialEq for Interrupts {
+    fn eq(&self, other: &Self) -> bool {
+        Rc::ptr_eq(&self.0, &other.0) || self.0 == other.0
     }
 }
 

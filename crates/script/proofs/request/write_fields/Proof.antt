@@ -10,8 +10,8 @@ enum-known-numbers c = search needs
 returns : tie.Need-returns
 returns c = not-four _ _ (c .before .args .numbers) (c .match .keys2)
 
-width-of-requires : tie.Need-width-of-requires
-width-of-requires c κs = search needs
+new-requires : tie.Need-new-requires
+new-requires c κs = search needs
 
 enum-known-width : tie.Need-enum-known-width
 enum-known-width c = search needs
@@ -20,10 +20,10 @@ enum-told : tie.Need-enum-told
 enum-told c = search needs
 
 returns-2 : tie.Need-returns-2
-returns-2 c = simp (c .before .before .before .before .numbers .given .1, ← c .before .before .width-of .ensures, c .enum-told .given .1)
+returns-2 c = simp (c .before .before .before .before .numbers .given .1, ← c .before .before .new .ensures, c .enum-told .given .1)
 
 returns-3 : tie.Need-returns-3
-returns-3 c = simp (c .before .before .before .before .before .numbers .given .1, ← c .before .before .before .width-of .ensures, c .before .width .given .1)
+returns-3 c = simp (c .before .before .before .before .before .numbers .given .1, ← c .before .before .before .new .ensures, c .before .width .given .1)
 
 pub write-fields-spec : {M : Type 1} → statement M
 write-fields-spec =
@@ -31,7 +31,7 @@ write-fields-spec =
     (tie.spec
     enum-known-numbers
     returns
-    width-of-requires
+    new-requires
     enum-known-width
     enum-told
     returns-2

@@ -28,8 +28,8 @@ fn assert_same_state(gic: &GicV3Controller, second: &Gic) {
     let private = state
         .redistributors
         .iter()
-        .flat_map(|(_, own)| &own.private);
-    let all = private.chain(&state.distributor.spis);
+        .flat_map(|(_, own)| own.private.iter());
+    let all = private.chain(state.distributor.spis.iter());
     let shown = all.map(|it| (access::parts(&it.record), it.owner.map(number)));
     assert!(shown.eq(second.records.iter().map(|r| (r.parts(), r.owner))));
     for (vcpu, (_, own)) in state.redistributors.iter().enumerate() {
@@ -43,7 +43,7 @@ fn assert_same_interface(own: &RedistributorState, second: &Gic, vcpu: usize) {
     assert_eq!(u64::from(cpu.v2_priority_mask().raw()), second.pmr[vcpu]);
     assert_eq!(u64::from(cpu.v2_binary_point()), second.bpr[vcpu]);
     let stack = cpu.active().iter();
-    let stack = stack.map(|(intid, priority)| (u64::from(intid.raw()), priority.raw()));
+    let stack = stack.map(|(number, priority)| (u64::from(*number), priority.raw()));
     assert!(stack.eq(second.stack[vcpu].iter().copied()));
     assert_eq!(own.sources, second.sources[16 * vcpu..][..16]);
 }
@@ -97,8 +97,8 @@ fn scramble(random: &mut Random, state: &mut State, second: &mut Gic) {
     second.on = random.percent(90);
     state.distributor.set_enabled(second.on);
     let vcpus = state.redistributors.iter_mut();
-    let private = vcpus.flat_map(|(_, own)| &mut own.private);
-    let all = private.chain(&mut state.distributor.spis);
+    let private = vcpus.flat_map(|(_, own)| own.private.iter_mut());
+    let all = private.chain(state.distributor.spis.iter_mut());
     for (it, record) in all.zip(&mut second.records) {
         let (parts, owner) = any_record(random, it.record.intid());
         it.record = access::make(&parts);

@@ -1,7 +1,7 @@
 //! That the histories do what they are for, and that demand 3 holds along them.
 use super::Scripts;
 use crate::{
-    AccessWidth, GicV3Controller, IntId,
+    AccessWidth, GicV3Controller,
     RegisterRegion::{self, CpuInterface, Distributor},
     access, invariants, lines,
     machine::{Answer, Call, SPURIOUS},
@@ -185,26 +185,26 @@ fn note_state(tally: &mut Tally, gic: &GicV3Controller) {
             tally.note("an SGI from three at once");
         }
     }
-    let private = vcpus().flat_map(|own| &own.private);
-    for it in private.chain(&state.distributor.spis) {
+    let private = vcpus().flat_map(|own| own.private.iter());
+    for it in private.chain(state.distributor.spis.iter()) {
         note_interrupt(tally, it);
     }
 }
 
-fn served(own: &RedistributorState) -> Vec<IntId> {
+fn served(own: &RedistributorState) -> Vec<u32> {
     let entries = own.cpu_interface().active().iter();
     entries.map(|entry| entry.0).collect()
 }
 
-fn note_stacks(tally: &mut Tally, stacks: &[Vec<IntId>]) {
+fn note_stacks(tally: &mut Tally, stacks: &[Vec<u32>]) {
     for stack in stacks {
         tally.note(format!("depth {}", stack.len()));
-        let times = |it: &IntId| stack.iter().filter(|other| *other == it).count();
+        let times = |it: &u32| stack.iter().filter(|other| *other == it).count();
         if stack.iter().any(|it| times(it) > 1) {
             tally.note("a number on one stack twice");
         }
-        let on = |it: &IntId| stacks.iter().filter(|stack| stack.contains(it)).count();
-        let shared = |it: &&IntId| matches!(it, IntId::Spi(_));
+        let on = |it: &u32| stacks.iter().filter(|stack| stack.contains(it)).count();
+        let shared = |it: &&u32| **it >= 32;
         if stack.iter().filter(shared).any(|it| on(it) > 1) {
             tally.note("a number on two stacks");
         }

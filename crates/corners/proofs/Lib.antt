@@ -1,0 +1,2 @@
+-- The statement about the corner list.
+pub mod Computed

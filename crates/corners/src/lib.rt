@@ -1,0 +1,1 @@
+// No code: the scope document's corner list, computed.

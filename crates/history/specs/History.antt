@@ -1,0 +1,35 @@
+-- Calls one after another: document 01, "What the promises have to hold". A call is any public call with any arguments, refused or not, and
+-- acts as its promise says.
+use mathlib.Core.Bool.{Bool}
+use mathlib.Core.List.{List, [], _∷_}
+use Prim.Native.Nat.{ℕ}
+use Rattle.register.specs.declared.frame.AccessWidth.{AccessWidth}
+use Rattle.controller.specs.Answer.{Outcome}
+use Rattle.controller.specs.Start.{setup}
+use Rattle.controller.specs.DistributorFrame.{readV2Distributor, writeV2Distributor}
+use Rattle.controller.specs.CpuInterfaceFrame.{readV2CpuInterface, writeV2CpuInterface}
+use Rattle.controller.specs.Input.{setLevel, pulse}
+
+-- vCPU, offset, width, value; for inputs vCPU and number
+pub data Call : Type 0 where
+  Setup : ℕ → ℕ → Call
+  ReadDistributor : ℕ → ℕ → AccessWidth → Call
+  WriteDistributor : ℕ → ℕ → AccessWidth → ℕ → Call
+  ReadCpuInterface : ℕ → ℕ → AccessWidth → Call
+  WriteCpuInterface : ℕ → ℕ → AccessWidth → ℕ → Call
+  SetLevel : ℕ → ℕ → Bool → Call
+  Pulse : ℕ → ℕ → Call
+
+abbrev pub called : Call → List ℕ → Outcome
+called (Setup count limit) s = setup count limit s
+called (ReadDistributor v offset width) s = readV2Distributor v offset width s
+called (WriteDistributor v offset width value) s = writeV2Distributor v offset width value s
+called (ReadCpuInterface v offset width) s = readV2CpuInterface v offset width s
+called (WriteCpuInterface v offset width value) s = writeV2CpuInterface v offset width value s
+called (SetLevel v n asserted) s = setLevel v n asserted s
+called (Pulse v n) s = pulse v n s
+
+-- the state after a history
+unfoldable pub run : List Call → List ℕ → List ℕ
+run [] s = s
+run (c ∷ cs) s = run cs (called c s .state)

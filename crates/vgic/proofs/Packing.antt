@@ -1,0 +1,29 @@
+-- A packed answer is the call's outcome, and its fields read back: a retired number is below 1024 in every call. Assumes nothing.
+use mathlib.Core.Path.{_≡_, ap, _∙_}
+use mathlib.Core.List.{List}
+use Prim.Native.Nat.{ℕ, _/_, _%_, _^_, _<_}
+use native.Mathlib.Omega.{arith}
+use Rattle.controller.specs.declared.answer.Answer.{Answer}
+use Rattle.controller.specs.Answer.{Outcome, outcome}
+use Rattle.vgic.specs.Packed.{packed, Answers}
+
+pub answers : (number : ℕ) (a : Answer) → ((s : List ℕ) → number ≡ packed (outcome a s)) → (s : List ℕ) (o : Outcome) → outcome a s ≡ o → Answers number s o
+answers number a p s o q = record { number-is = p s ∙ ap packed q; state-is = ap (λ (t : Outcome). t .state) q }
+
+-- the fields of a packed answer read back
+module _ (o : Outcome) (value-fits : o .value < 2 ^ 32) (retired-fits : o .retired < 2 ^ 16) (wake-fits : o .wake < 2 ^ 8) where
+  pub packed-value : packed o % 2 ^ 32 ≡ o .value
+  unfolding packed
+  packed-value = omega arith
+
+  pub packed-retired : packed o / 2 ^ 32 % 2 ^ 16 ≡ o .retired
+  unfolding packed
+  packed-retired = omega arith
+
+  pub packed-wake : packed o / 2 ^ 48 % 2 ^ 8 ≡ o .wake
+  unfolding packed
+  packed-wake = omega arith
+
+  pub packed-refusal : packed o / 2 ^ 56 ≡ o .refusal
+  unfolding packed
+  packed-refusal = omega arith

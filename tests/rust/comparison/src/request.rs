@@ -1,0 +1,123 @@
+//! A call as the C face takes it: any numbers at all, also a width that is none.
+use oracle::{
+    AccessWidth,
+    RegisterRegion::{self, CpuInterface, Distributor},
+    machine::{Access, Answer, Call, Input},
+};
+use std::fmt;
+
+/// Where a register is read or written, and by whom; the width is a number.
+#[derive(Clone, Copy, Debug, PartialEq, Eq)]
+pub struct Place {
+    pub region: RegisterRegion,
+    pub vcpu: u64,
+    pub offset: u64,
+    pub width: u64,
+}
+
+#[derive(Clone, Copy, Debug, PartialEq, Eq)]
+pub enum Request {
+    Setup { count: u64, limit: u64 },
+    Read(Place),
+    Write(Place, u64),
+    SetLevel(Input, bool),
+    Pulse(Input),
+}
+
+impl Request {
+    /// The call, unless its width is none.
+    pub fn call(&self) -> Option<Call> {
+        Some(match *self {
+            Self::Setup { count, limit } => Call::Setup { count, limit },
+            Self::Read(at) => Call::Read(at.access()?),
+            Self::Write(at, value) => Call::Write(at.access()?, value),
+            Self::SetLevel(input, asserted) => Call::SetLevel(input, asserted),
+            Self::Pulse(input) => Call::Pulse(input),
+        })
+    }
+
+    /// The same access at another width; other calls have none.
+    pub fn at_width(self, width: u64) -> Self {
+        match self {
+            Self::Read(at) => Self::Read(Place { width, ..at }),
+            Self::Write(at, value) => Self::Write(Place { width, ..at }, value),
+            other => other,
+        }
+    }
+}
+
+impl Place {
+    fn access(&self) -> Option<Access> {
+        let mut widths = AccessWidth::ALL.into_iter();
+        Some(Access {
+            region: self.region,
+            vcpu: self.vcpu,
+            offset: self.offset,
+            width: widths.find(|width| width.size() as u64 == self.width)?,
+        })
+    }
+}
+
+impl From<Access> for Place {
+    fn from(at: Access) -> Self {
+        Self {
+            region: at.region,
+            vcpu: at.vcpu,
+            offset: at.offset,
+            width: at.width.size() as u64,
+        }
+    }
+}
+
+impl From<Call> for Request {
+    fn from(call: Call) -> Self {
+        match call {
+            Call::Setup { count, limit } => Self::Setup { count, limit },
+            Call::Read(at) => Self::Read(at.into()),
+            Call::Write(at, value) => Self::Write(at.into(), value),
+            Call::SetLevel(input, asserted) => Self::SetLevel(input, asserted),
+            Call::Pulse(input) => Self::Pulse(input),
+        }
+    }
+}
+
+/// An answer as the C face gives it, in one number.
+pub fn packed(answer: &Answer) -> u64 {
+    let value = u32::try_from(answer.value).expect("no value has more than 32 bits");
+    u64::from(value)
+        | u64::from(answer.retired) << 32
+        | u64::from(answer.wake) << 48
+        | u64::from(answer.refusal) << 56
+}
+
+/// What a packed answer says, in the runner's form.
+pub fn shown(packed: u64) -> String {
+    let (value, retired) = (packed as u32, (packed >> 32) as u16);
+    let (wake, refusal) = ((packed >> 48) as u8, (packed >> 56) as u8);
+    format!("{refusal} {value} {wake} {retired}")
+}
+
+/// The runner's line.
+impl fmt::Display for Request {
+    fn fmt(&self, f: &mut fmt::Formatter) -> fmt::Result {
+        match self {
+            Self::Setup { count, limit } => write!(f, "n {count} {limit}"),
+            Self::Read(at) => match at.region {
+                Distributor => write!(f, "d {at}"),
+                CpuInterface => write!(f, "c {at}"),
+            },
+            Self::Write(at, value) => match at.region {
+                Distributor => write!(f, "D {at} {value}"),
+                CpuInterface => write!(f, "C {at} {value}"),
+            },
+            Self::SetLevel(input, asserted) => write!(f, "l {input} {}", u8::from(*asserted)),
+            Self::Pulse(input) => write!(f, "p {input}"),
+        }
+    }
+}
+
+impl fmt::Display for Place {
+    fn fmt(&self, f: &mut fmt::Formatter) -> fmt::Result {
+        write!(f, "{} {} {}", self.vcpu, self.offset, self.width)
+    }
+}

@@ -1,0 +1,234 @@
+//! That a comparison passes what is equal and finds what is not: the oracle itself in a library's place, as it is and spoiled.
+use crate::{
+    Library,
+    request::{Request, packed},
+    run,
+    tally::Tally,
+};
+use oracle::{
+    RegisterRegion::{CpuInterface, Distributor},
+    machine::{Answer, Machine},
+    register::{GICC_EOIR, GICC_IAR, GICD_ITARGETSR},
+    words::{HEADER, STACK, VCPU, size, within_limits},
+};
+
+/// What a spoiled library does beside its call: it sees the words before, and changes answer and words.
+type Spoil = fn(&Request, &[u32], &mut u64, &mut [u32]);
+
+struct StandIn(Spoil);
+
+const CALLS: u64 = 50_000;
+
+impl Library for StandIn {
+    fn state_words(&self, count: u64, limit: u64) -> u64 {
+        if within_limits(count, limit) {
+            size(count as usize, limit as usize) as u64
+        } else {
+            0
+        }
+    }
+
+    fn call(&self, words: &mut [u32], request: &Request) -> u64 {
+        let before = words.to_vec();
+        let mut given = packed(&self.answer(words, request));
+        self.0(request, &before, &mut given, words);
+        given
+    }
+}
+
+impl StandIn {
+    fn answer(&self, words: &mut [u32], request: &Request) -> Answer {
+        let Some(call) = request.call() else {
+            return Answer::refused(2);
+        };
+        if let Request::Setup { count, limit } = *request
+            && self.state_words(count, limit) > words.len() as u64
+        {
+            return Answer::refused(5);
+        }
+        let (mut machine, mut after) = (Machine::lent(words), vec![]);
+        let answer = machine.call(&call).unwrap();
+        machine.write_words(&mut after);
+        if matches!(request, Request::Setup { .. }) && answer.refusal == 0 {
+            words[..after.len()].copy_from_slice(&after);
+        }
+        put(words, &after);
+        answer
+    }
+}
+
+/// Writes what does not mean what it should, the depths first: they say which entries mean anything.
+fn put(words: &mut [u32], after: &[u32]) {
+    let mut meaning = vec![];
+    for _ in 0..2 {
+        Machine::lent(words).write_words(&mut meaning);
+        for (index, word) in after.iter().enumerate() {
+            if meaning[index] != *word {
+                words[index] = *word;
+            }
+        }
+    }
+}
+
+#[test]
+fn what_is_equal_passes() {
+    let tallies = run(&StandIn(|_, _, _, _| {}), 1, CALLS);
+    let tallies = tallies.unwrap_or_else(|case| panic!("{}", case.text()));
+    for (name, tally) in &tallies[1..] {
+        assert!(tally.calls >= CALLS / 10, "{name}: {tally}");
+        assert!(tally.acknowledges > 50, "{name}: {tally}");
+        assert!(tally.retirements > 20, "{name}: {tally}");
+        assert!(tally.wakes > 50, "{name}: {tally}");
+    }
+    let mut all = Tally::default();
+    tallies.into_iter().for_each(|(_, tally)| all += tally);
+    assert!(all.refusals.iter().all(|count| *count > 20), "{all}");
+}
+
+/// Found, and told by at most so many calls.
+fn found(at_most: usize, spoil: Spoil) {
+    let library = StandIn(spoil);
+    let case = run(&library, 1, CALLS).expect_err("a spoiled library");
+    let case = case.shrunk(&library);
+    assert!(case.requests.len() <= at_most, "{}", case.text());
+}
+
+fn is_read(request: &Request) -> bool {
+    matches!(request, Request::Read(_))
+}
+
+#[test]
+fn a_wrong_answer_is_found() {
+    // A value, a wake bit, a retired number, a refusal; a refusal with a value.
+    found(9, |_, _, given, _| *given ^= u64::from(*given as u32 == 5));
+    found(9, |_, _, given, _| *given &= !(2 << 48));
+    found(12, |_, _, given, _| *given |= 1023 << 32);
+    found(3, |_, _, given, _| {
+        if *given >> 56 == 3 {
+            *given ^= 1 << 56;
+        }
+    });
+    found(3, |_, _, given, _| *given |= u64::from(*given >> 56 == 6));
+}
+
+#[test]
+fn a_wrong_word_is_found() {
+    // A read that writes, a refused call that writes, a record's owner kept, a word past the state, a bit that counts for nothing.
+    found(3, |request, _, _, words| {
+        if let ([_, _, on, ..], true) = (words, is_read(request)) {
+            *on ^= 1;
+        }
+    });
+    found(2, |_, _, given, words| {
+        if let (Some(last), true) = (words.last_mut(), *given >> 56 == 6) {
+            *last ^= 1 << 31;
+        }
+    });
+    found(12, |_, before, given, words| {
+        let retired = (*given >> 32 & 1023) as usize;
+        if retired < 16 && words.len() > 100 {
+            let at = HEADER + 20 + retired;
+            words[at] |= before[at] & 0xff00_0000;
+        }
+    });
+    found(2, |_, _, given, words| {
+        let length = words.len();
+        if length > size(1, 32) && words[..2] == [1, 32] && *given >> 56 == 0 {
+            words[length - 1] = 7;
+        }
+    });
+    found(2, |request, before, _, words| {
+        if before != words && !is_read(request) {
+            words[2] |= 2;
+        }
+    });
+}
+
+#[test]
+fn a_popped_entry_that_is_left_is_found() {
+    found(12, |_, before, _, words| {
+        let depth = HEADER + 3;
+        if words.len() < size(1, 32) || words[0] != before[0] || words[depth] >= before[depth] {
+            return;
+        }
+        let stack = size(words[0] as usize, words[1] as usize) - STACK * words[0] as usize;
+        let popped = stack + words[depth] as usize;
+        words[popped] = before[popped];
+    });
+}
+
+#[test]
+fn a_rule_that_only_lent_words_show_is_found() {
+    // A depth of 255 taken for too deep.
+    found(2, |_, before, given, words| {
+        let depth = before.get(HEADER + 3);
+        if depth == Some(&255) && before.len() >= size(1, 32) && before[0] == 1 {
+            words.copy_from_slice(before);
+            *given = 6 << 56 | 1023 << 32;
+        }
+    });
+    // A vCPU's depth that is not looked at.
+    found(1, |_, before, given, _| {
+        let second = before.get(HEADER + VCPU + 3).copied().unwrap_or(0);
+        if before.first() == Some(&2) && second > 255 && *given >> 56 == 6 {
+            *given = 1023 << 32;
+        }
+    });
+}
+
+/// The vCPU's first word, and its stack's.
+fn places(words: &[u32], vcpu: u64) -> (usize, usize) {
+    let (count, limit, vcpu) = (words[0] as usize, words[1] as usize, vcpu as usize);
+    let stacks = size(count, limit) - STACK * count;
+    (HEADER + VCPU * vcpu, stacks + STACK * vcpu)
+}
+
+// What document 01 calls tempting and wrong.
+
+#[test]
+fn an_sgis_pending_bit_cleared_at_its_first_acknowledge_is_found() {
+    found(12, |request, _, given, words| {
+        if let Request::Read(at) = request
+            && (at.region, at.offset, *given >> 56) == (CpuInterface, GICC_IAR, 0)
+            && *given & 1023 < 16
+        {
+            let number = *given as usize & 1023;
+            words[places(words, at.vcpu).0 + 20 + number] &= !2;
+        }
+    });
+}
+
+#[test]
+fn a_target_that_does_not_exist_is_found() {
+    found(3, |request, _, given, words| {
+        if let Request::Write(at, value) = request
+            && (at.region, at.width, *given >> 56) == (Distributor, 1, 0)
+            && (GICD_ITARGETSR + 32..GICD_ITARGETSR + u64::from(words[1])).contains(&at.offset)
+        {
+            let number = (at.offset - GICD_ITARGETSR) as usize - 32;
+            let spis = HEADER + VCPU * words[0] as usize;
+            words[spis + number] |= (*value as u32 & 0xff) << 16;
+        }
+    });
+}
+
+#[test]
+fn an_older_entry_removed_is_found() {
+    found(30, |request, before, given, words| {
+        if let Request::Write(at, value) = request
+            && (at.region, at.offset, *given >> 56) == (CpuInterface, GICC_EOIR, 0)
+            && at.vcpu < u64::from(words[0])
+        {
+            let (own, stack) = places(words, at.vcpu);
+            let depth = words[own + 3] as usize;
+            let served = &mut words[stack..stack + depth];
+            let same = |word: &u32| u64::from(*word) & 1023 == *value & 1023;
+            let older = served.iter().position(same);
+            if let (Some(index), true) = (older, before[own + 3] == depth as u32) {
+                served[index..].rotate_left(1);
+                served[depth - 1] = 0;
+                words[own + 3] -= 1;
+            }
+        }
+    });
+}

@@ -1,0 +1,55 @@
+//! `driver [SEED [CALLS]]` compares libvgic.a with the oracle: after every call the answer and every word of the state. It ends with
+//! status 1 and the calls that lead there where they differ.
+use comparison::{report::Case, run, tally::Tally};
+use driver::Vgic;
+use std::{env, process::ExitCode};
+
+const SEED: u64 = 1;
+/// Enough to come to every place of both frames, and to every count and limit.
+const CALLS: u64 = 1_500_000;
+
+fn main() -> ExitCode {
+    let arguments = env::args().skip(1).map(|argument| argument.parse::<u64>());
+    let numbers: Result<Vec<u64>, _> = arguments.collect();
+    let (seed, calls) = match numbers.as_deref() {
+        Ok([]) => (SEED, CALLS),
+        Ok(&[seed]) => (seed, CALLS),
+        Ok(&[seed, calls]) => (seed, calls),
+        _ => {
+            eprintln!("usage: driver [SEED [CALLS]]");
+            return ExitCode::from(2);
+        }
+    };
+    println!("driver: seed {seed}");
+    match run(&Vgic, seed, calls) {
+        Ok(tallies) => {
+            print(&tallies);
+            ExitCode::SUCCESS
+        }
+        Err(case) => {
+            tell(case);
+            ExitCode::FAILURE
+        }
+    }
+}
+
+fn print(tallies: &[(&str, Tally)]) {
+    let mut all = Tally::default();
+    for (name, tally) in tallies {
+        println!("driver: {name}: {tally}");
+        all += *tally;
+    }
+    println!("driver: {all}");
+    println!(
+        "driver: {} calls compared, every answer and every word equal",
+        all.calls
+    );
+}
+
+fn tell(case: Case) {
+    println!("driver: a difference, after these lines:\n{}", case.text());
+    println!(
+        "driver: and after these fewer:\n{}",
+        case.shrunk(&Vgic).text()
+    );
+}

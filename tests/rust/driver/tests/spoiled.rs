@@ -1,0 +1,36 @@
+//! That the driver fails where the linked library differs.
+use comparison::{Library, request::Request, run};
+use driver::Vgic;
+
+/// The library, with one bit of one word changed in every read of RPR.
+struct Spoiled;
+
+impl Library for Spoiled {
+    fn state_words(&self, count: u64, limit: u64) -> u64 {
+        Vgic.state_words(count, limit)
+    }
+
+    fn call(&self, words: &mut [u32], request: &Request) -> u64 {
+        let answer = Vgic.call(words, request);
+        if let (Request::Read(at), Some(last)) = (request, words.last_mut())
+            && at.offset == 0x14
+            && answer >> 56 == 0
+        {
+            *last ^= 1 << 30;
+        }
+        answer
+    }
+}
+
+#[test]
+fn a_changed_word_is_found() {
+    let case = run(&Spoiled, 1, 50_000).expect_err("a difference");
+    let case = case.shrunk(&Spoiled);
+    assert!(case.requests.len() <= 2, "{}", case.text());
+}
+
+#[test]
+fn the_library_itself_passes() {
+    let tallies = run(&Vgic, 2, 50_000);
+    assert!(tallies.is_ok(), "{}", tallies.unwrap_err().text());
+}

@@ -1,0 +1,205 @@
+//! A GICv2 interrupt controller for small Arm guests: the proved library `libvgic.a`, safe to call from Rust.
+//!
+//! The caller lends the controller's whole state as words ([`Gic::lend`]) and has them back after each call. There is no call that is
+//! undefined: for any words, any length and any numbers each answers a [`Reply`] or a [`Refusal`], and a refused call leaves every word as
+//! it was.
+//!
+//! A guest's first steps, and one software interrupt from vCPU 0 to vCPU 1:
+//!
+//! ```
+//! use vgic::{AccessWidth::{Dword, Qword}, Gic, GicVcpuId, IntId, Refusal, offset};
+//!
+//! # fn main() -> Result<(), Refusal> {
+//! // Two vCPUs, and interrupts below 40.
+//! let mut words = vec![0; vgic::state_words(2, 40).expect("in range")];
+//! let mut gic = Gic::lend(&mut words);
+//! gic.setup(2, 40)?;
+//! let (first, second) = (GicVcpuId(0), GicVcpuId(1));
+//!
+//! // The guest turns on the Distributor and vCPU 1's interface, and lets every priority through.
+//! gic.write_v2_distributor(first, offset::GICD_CTLR, Dword, 1)?;
+//! gic.write_v2_cpu_interface(second, offset::GICC_CTLR, Dword, 1)?;
+//! gic.write_v2_cpu_interface(second, offset::GICC_PMR, Dword, 255)?;
+//!
+//! // vCPU 0 sends SGI 5 to vCPU 1, which has to be woken.
+//! let sent = gic.write_v2_distributor(first, offset::GICD_SGIR, Dword, 0x0002_0005)?;
+//! assert_eq!(sent.wake.vcpus().collect::<Vec<_>>(), [second]);
+//!
+//! // It acknowledges the interrupt, finds no other, and ends it: the service of 5 has ended.
+//! assert_eq!(gic.read_v2_cpu_interface(second, offset::GICC_IAR, Dword)?.value, 5);
+//! assert_eq!(gic.read_v2_cpu_interface(second, offset::GICC_IAR, Dword)?.value, 1023);
+//! let ended = gic.write_v2_cpu_interface(second, offset::GICC_EOIR, Dword, 5)?;
+//! assert_eq!(ended.retired, Some(IntId(5)));
+//!
+//! // What a guest may get wrong is refused by its reason, and changes nothing.
+//! let wide = gic.read_v2_distributor(first, offset::GICD_ITARGETSR, Qword);
+//! assert_eq!(wide, Err(Refusal::Width));
+//! let stranger = gic.read_v2_cpu_interface(GicVcpuId(9), offset::GICC_HPPIR, Dword);
+//! assert_eq!(stranger, Err(Refusal::Vcpu));
+//! # Ok(())
+//! # }
+//! ```
+//!
+//! To link it, `libvgic.a` has to lie where `build.rs` looks: in `target/staticlib` of the repository, or in the folder that
+//! `VGIC_LIB_DIR` names. It is for x86-64.
+#![deny(missing_docs)]
+#![deny(unsafe_op_in_unsafe_fn)]
+
+mod answer;
+pub mod offset;
+pub mod raw;
+
+pub use answer::{Refusal, Reply, WakeSet};
+
+/// A vCPU's number, whether it exists or not.
+#[derive(Clone, Copy, Debug, PartialEq, Eq, PartialOrd, Ord, Hash)]
+pub struct GicVcpuId(pub u64);
+
+/// An interrupt's number: SGIs are 0 to 15, PPIs 16 to 31, SPIs from 32. It is never taken for a vCPU's:
+///
+/// ```compile_fail,E0308
+/// use vgic::{Gic, GicVcpuId, IntId};
+/// let _ = Gic::lend(&mut []).pulse(IntId(33), GicVcpuId(0));
+/// ```
+#[derive(Clone, Copy, Debug, PartialEq, Eq, PartialOrd, Ord, Hash)]
+pub struct IntId(pub u64);
+
+/// How many bytes an access reads or writes.
+#[derive(Clone, Copy, Debug, PartialEq, Eq)]
+pub enum AccessWidth {
+    /// 1 byte.
+    Byte = 1,
+    /// 2 bytes.
+    Word = 2,
+    /// 4 bytes.
+    Dword = 4,
+    /// 8 bytes.
+    Qword = 8,
+}
+
+impl IntId {
+    /// What a read of IAR or HPPIR gives where there is no interrupt.
+    pub const SPURIOUS: Self = Self(1023);
+}
+
+impl AccessWidth {
+    /// The number of bytes.
+    pub const fn size(self) -> u64 {
+        self as u64
+    }
+}
+
+/// How many words a state takes: `count` is 1 to 8 vCPUs, and `limit`, 32 to 1020, the first number that is no interrupt.
+pub fn state_words(count: u64, limit: u64) -> Option<usize> {
+    match raw::vgic_state_words(count, limit) {
+        0 => None,
+        words => Some(words as usize),
+    }
+}
+
+/// The controller over the words that the caller lends. It keeps nothing else, so words may be copied, kept and lent again.
+#[derive(Debug)]
+pub struct Gic<'a> {
+    words: &'a mut [u32],
+}
+
+impl<'a> Gic<'a> {
+    /// Over any words at all; words that are no state are refused by every call but [`setup`](Self::setup).
+    pub fn lend(words: &'a mut [u32]) -> Self {
+        Self { words }
+    }
+
+    /// The lent words as they are.
+    pub fn words(&self) -> &[u32] {
+        self.words
+    }
+
+    /// Makes the words a fresh state; [`state_words`] says how many are needed, and words past these are never touched.
+    pub fn setup(&mut self, count: u64, limit: u64) -> Result<(), Refusal> {
+        let (words, length) = self.lent();
+        // SAFETY: the words are ours for as long as `self` is borrowed, as in every call below.
+        let answer = unsafe { raw::vgic_setup(words, length, count, limit) };
+        answer::unpacked(answer).map(|_| ())
+    }
+
+    /// A guest's read of the Distributor.
+    pub fn read_v2_distributor(
+        &self,
+        vcpu: GicVcpuId,
+        offset: u64,
+        width: AccessWidth,
+    ) -> Result<Reply, Refusal> {
+        let (words, length) = (self.words.as_ptr(), self.words.len());
+        // SAFETY: the words are ours, and are read only.
+        answer::unpacked(unsafe {
+            raw::vgic_read_v2_distributor(words, length, vcpu.0, offset, width.size())
+        })
+    }
+
+    /// A guest's write to the Distributor; bits of the value above the width are ignored.
+    pub fn write_v2_distributor(
+        &mut self,
+        vcpu: GicVcpuId,
+        offset: u64,
+        width: AccessWidth,
+        value: u64,
+    ) -> Result<Reply, Refusal> {
+        let (words, length) = self.lent();
+        // SAFETY: as in `setup`.
+        answer::unpacked(unsafe {
+            raw::vgic_write_v2_distributor(words, length, vcpu.0, offset, width.size(), value)
+        })
+    }
+
+    /// A guest's read of its CPU interface; a read of IAR acknowledges an interrupt.
+    pub fn read_v2_cpu_interface(
+        &mut self,
+        vcpu: GicVcpuId,
+        offset: u64,
+        width: AccessWidth,
+    ) -> Result<Reply, Refusal> {
+        let (words, length) = self.lent();
+        // SAFETY: as in `setup`.
+        answer::unpacked(unsafe {
+            raw::vgic_read_v2_cpu_interface(words, length, vcpu.0, offset, width.size())
+        })
+    }
+
+    /// A guest's write to its CPU interface.
+    pub fn write_v2_cpu_interface(
+        &mut self,
+        vcpu: GicVcpuId,
+        offset: u64,
+        width: AccessWidth,
+        value: u64,
+    ) -> Result<Reply, Refusal> {
+        let (words, length) = self.lent();
+        // SAFETY: as in `setup`.
+        answer::unpacked(unsafe {
+            raw::vgic_write_v2_cpu_interface(words, length, vcpu.0, offset, width.size(), value)
+        })
+    }
+
+    /// A device raises or lowers its line: of a PPI of this vCPU, or of an SPI, for which the vCPU does not matter.
+    pub fn set_level(
+        &mut self,
+        vcpu: GicVcpuId,
+        number: IntId,
+        asserted: bool,
+    ) -> Result<Reply, Refusal> {
+        let (words, length) = self.lent();
+        // SAFETY: as in `setup`.
+        answer::unpacked(unsafe { raw::vgic_set_level(words, length, vcpu.0, number.0, asserted) })
+    }
+
+    /// A device pulses its line.
+    pub fn pulse(&mut self, vcpu: GicVcpuId, number: IntId) -> Result<Reply, Refusal> {
+        let (words, length) = self.lent();
+        // SAFETY: as in `setup`.
+        answer::unpacked(unsafe { raw::vgic_pulse(words, length, vcpu.0, number.0) })
+    }
+
+    fn lent(&mut self) -> (*mut u32, usize) {
+        (self.words.as_mut_ptr(), self.words.len())
+    }
+}
