@@ -9,19 +9,24 @@ use lib.Dec.{leb, ltb}
 use borrow.Author.Tests.{leb-false, ltb-true, lt-ltb}
 use Rattle.interrupt.specs.declared.types.IntId.{IntId}
 use Rattle.interrupt.specs.declared.record.InterruptRecord.{InterruptRecord}
+use Rattle.register.specs.declared.frame.AccessWidth.{AccessWidth}
+use Rattle.register.specs.declared.distributor.Place.{Place}
 use Rattle.register.specs.declared.«cpu_interface».CpuInterfaceRegister.{CpuInterfaceRegister}
 use Rattle.register.specs.declared.«cpu_interface».CpuInterfaceRegister.the-variants.{Ctlr, Pmr, Bpr, Iar, Eoir, Rpr, Hppir, Abpr, Aiar, Aeoir, Ahppir, Apr, Iidr, Dir, Other}
 use Rattle.state.specs.declared.layout.Shape.{Shape}
 use Rattle.state.specs.declared.layout.InterfaceValue.the-variants.{Depth}
 use Rattle.state.specs.Layout.{Interface}
-use Rattle.state.specs.Words.{RecordThere, recordSlot, changed}
+use Rattle.state.specs.Words.{enabledAt, RecordThere, recordSlot, changed}
 use Rattle.state.proofs.Accessors.{put-room, put-other, record-exists}
 use Rattle.state.proofs.SlotKinds.{apart-record}
 use Rattle.state.proofs.Tests.{right-true}
 use Rattle.service.specs.Service.{Sound}
+use Rattle.service.proofs.Soundness.{sound-served}
+use Rattle.places.specs.Places as places
+use Rattle.places.specs.Places.{Located, PlaceRead, PlaceWritten}
 use Rattle.acknowledge.specs.declared.Read.the-variants.{StackFull}
 use Rattle.acknowledge.specs.Acknowledge.{refusalOf}
-use Rattle.cpu_interface.specs.CpuInterface.{readRegister, afterRead}
+use Rattle.cpu_interface.specs.CpuInterface.{readRegister, afterRead, readLooksUp, writeLooksUp, Reading, Writing}
 use Rattle.delivery.proofs.Answers.{full-unchanged}
 use Rattle.places.proofs.Sounds.{depths-sound}
 use Rattle.controller.specs.declared.input.InputNumber.{InputNumber}
@@ -32,6 +37,21 @@ use Rattle.controller.specs.Input.{inputOf}
 pub present : (looksUp : Bool) (shape : Shape) (v : ℕ) → absent looksUp shape v ≡ false → looksUp ≡ true → v < shape .count
 present true shape v e q = leb-false (shape .count) v e
 present false shape v e q = absurd (true≢false (sym q))
+
+-- so that what the call goes on to asks for is there
+module _ {shape : Shape} {s : List ℕ} (v : ℕ) (h : Sound shape s) where
+  pub place-read : {place : Place} {w : AccessWidth} → Located place w → absent (places.readLooksUp (place .class) (place .private)) shape v ≡ false → PlaceRead shape v place w s
+  place-read located e = record { state = h .state; located = located; looked = present _ shape v e }
+
+  pub place-written : {place : Place} {w : AccessWidth} {value : ℕ} → Located place w → absent (places.writeLooksUp (place .class) (place .private) value) shape v ≡ false
+      → PlaceWritten shape v place w value s
+  place-written located e = record { state = h .state; located = located; looked = present _ shape v e }
+
+  pub interface-read : {register : CpuInterfaceRegister} → absent (readLooksUp register (enabledAt shape s)) shape v ≡ false → Reading shape v register s
+  interface-read e = record { state = h .state; served = λ q. sound-served v h (present _ shape v e q) }
+
+  pub interface-written : {register : CpuInterfaceRegister} {value : ℕ} → absent (writeLooksUp register value) shape v ≡ false → Writing shape v register value s
+  interface-written e = record { state = h .state; served = λ q. sound-served v h (present _ shape v e q) }
 
 pub changed-sound : (shape : Shape) (v n : ℕ) (f : InterruptRecord → InterruptRecord) (s : List ℕ) → Sound shape s → RecordThere shape v n → Sound shape (changed shape v n f s)
 changed-sound shape v n f s h there =

@@ -9,10 +9,9 @@ use Rattle.register.specs.declared.frame.AccessWidth.{AccessWidth}
 use Rattle.register.specs.declared.ranges.Class.{Class}
 use Rattle.register.specs.declared.ranges.Class.the-variants.{Ctlr, Typer, Iidr, Sgir, Bits, Bytes, Other}
 use Rattle.register.specs.declared.distributor.Place.{Place}
-use Rattle.word.specs.Word.{bitOf}
 use Rattle.state.specs.declared.layout.Shape.{Shape}
 use Rattle.state.specs.declared.layout.InterfaceValue.the-variants.{Depth}
-use Rattle.state.specs.Layout.{Slot, DistributorControl, Interface, Sources, Room}
+use Rattle.state.specs.Layout.{DistributorControl, Interface, Sources, Room}
 use Rattle.state.specs.Words.{wordAt}
 use Rattle.state.proofs.Accessors.{put-room, put-other}
 use Rattle.state.proofs.Numbers.{Of}
@@ -23,7 +22,7 @@ use Rattle.sgi.specs.Sgi.{sgiTarget, writeSgir}
 use Rattle.sgi.proofs.Rings.{sgi-room, sgi-others}
 use Rattle.distributor.specs.Values.{writeControl}
 use Rattle.distributor.proofs.Registers.{bytes-room, bytes-others}
-use Rattle.places.specs.Places.{sends, ringed, writeClass, writePlace, PlaceWritten}
+use Rattle.places.specs.Places.{sends, writeClass, writePlace, PlaceWritten}
 use Rattle.places.proofs.Fits.{bit-word, byte-run}
 
 -- a state with the same depths

@@ -33,7 +33,10 @@ enum-known-class : tie.Need-enum-known-class
 enum-known-class c = search needs
 
 read-bits-requires : tie.Need-read-bits-requires
-read-bits-requires c κs = bit-word (c .before .before .before .before .before .args .shape) (c .before .before .before .before .before .args .vcpu .0) (c .before .before .before .before .before .args .place) (c .before .before .before .before .before .args .width) (c .before .before .before .before .before .args .words .now) (c .before .before .before .before .before .pre .state) (c .before .before .before .before .before .pre .located) _ (c .before .class .given .1) (λ q. c .before .before .before .before .before .pre .looked (simp (c .before .class .given .1) q))
+read-bits-requires c κs =
+    let a = c .before .before .before .before .before .args in
+    let p = c .before .before .before .before .before .pre in
+    bit-word (a .shape) (a .vcpu .0) (a .place) (a .width) (a .words .now) (p .state) (p .located) _ (c .before .class .given .1) (λ q. p .looked (simp (c .before .class .given .1) q))
 
 enum-known-class-2 : tie.Need-enum-known-class-2
 enum-known-class-2 c = search needs
@@ -45,7 +48,10 @@ cast-read-bytes : tie.Need-cast-read-bytes
 cast-read-bytes c = let h : bytes (c .before .before .before .before .before .before .args .width) ≤ 8 = bytes-few (c .before .before .before .before .before .before .args .width) in record { fits = rw (c .size .ensures) (omega arith) }
 
 read-bytes-requires : tie.Need-read-bytes-requires
-read-bytes-requires c κs = rw (c .size .ensures) (byte-run (c .before .before .before .before .before .before .args .shape) (c .before .before .before .before .before .before .args .vcpu .0) (c .before .before .before .before .before .before .args .place) (c .before .before .before .before .before .before .args .width) (c .before .before .before .before .before .before .args .words .now) (c .before .before .before .before .before .before .pre .state) (c .before .before .before .before .before .before .pre .located) _ (c .before .before .class2 .given .1) (λ q. c .before .before .before .before .before .before .pre .looked (simp (c .before .before .class2 .given .1) q)))
+read-bytes-requires c κs =
+    let a = c .before .before .before .before .before .before .args in
+    let p = c .before .before .before .before .before .before .pre in
+    rw (c .size .ensures) (byte-run (a .shape) (a .vcpu .0) (a .place) (a .width) (a .words .now) (p .state) (p .located) _ (c .before .before .class2 .given .1) (λ q. p .looked (simp (c .before .before .class2 .given .1) q)))
 
 enum-told-5 : tie.Need-enum-told-5
 enum-told-5 c = search needs

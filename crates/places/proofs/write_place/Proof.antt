@@ -30,7 +30,10 @@ enum-known-class : tie.Need-enum-known-class
 enum-known-class c = search needs
 
 write-bits-requires : tie.Need-write-bits-requires
-write-bits-requires c κs = bit-word (c .before .before .before .before .before .before .args .shape) (c .before .before .before .before .before .before .args .vcpu .0) (c .before .before .before .before .before .before .args .place) (c .before .before .before .before .before .before .args .width) (c .before .before .before .before .before .before .args .words .now) (c .before .before .before .before .before .before .pre .state) (c .before .before .before .before .before .before .pre .located) _ (c .before .before .class .given .1) (λ q. c .before .before .before .before .before .before .pre .looked (simp (c .before .before .class .given .1) q))
+write-bits-requires c κs =
+    let a = c .before .before .before .before .before .before .args in
+    let p = c .before .before .before .before .before .before .pre in
+    bit-word (a .shape) (a .vcpu .0) (a .place) (a .width) (a .words .now) (p .state) (p .located) _ (c .before .before .class .given .1) (λ q. p .looked (simp (c .before .before .class .given .1) q))
 
 enum-known-class-2 : tie.Need-enum-known-class-2
 enum-known-class-2 c = search needs
@@ -42,7 +45,10 @@ cast-write-bytes : tie.Need-cast-write-bytes
 cast-write-bytes c = let h : bytes (c .before .before .before .before .before .before .before .args .width) ≤ 8 = bytes-few (c .before .before .before .before .before .before .before .args .width) in record { fits = rw (c .size .ensures) (omega arith) }
 
 write-bytes-requires : tie.Need-write-bytes-requires
-write-bytes-requires c κs = rw (c .size .ensures) (byte-run (c .before .before .before .before .before .before .before .args .shape) (c .before .before .before .before .before .before .before .args .vcpu .0) (c .before .before .before .before .before .before .before .args .place) (c .before .before .before .before .before .before .before .args .width) (c .before .before .before .before .before .before .before .args .words .now) (c .before .before .before .before .before .before .before .pre .state) (c .before .before .before .before .before .before .before .pre .located) _ (c .before .before .before .class2 .given .1) (λ q. c .before .before .before .before .before .before .before .pre .looked (simp (c .before .before .before .class2 .given .1) q)))
+write-bytes-requires c κs =
+    let a = c .before .before .before .before .before .before .before .args in
+    let p = c .before .before .before .before .before .before .before .pre in
+    rw (c .size .ensures) (byte-run (a .shape) (a .vcpu .0) (a .place) (a .width) (a .words .now) (p .state) (p .located) _ (c .before .before .before .class2 .given .1) (λ q. p .looked (simp (c .before .before .before .class2 .given .1) q)))
 
 enum-told-5 : tie.Need-enum-told-5
 enum-told-5 c = search needs

@@ -1,7 +1,6 @@
 -- `controller::cpu_interface_frame::read_at` meets its contract. Assumes nothing.
 use mathlib.Core.Path.{sym, _∙_}
-use Rattle.service.proofs.Soundness.{sound-served}
-use Rattle.controller.proofs.Calls.{present, full-read}
+use Rattle.controller.proofs.Calls.{interface-read, full-read}
 use borrow.Author.Needs.{needs}
 use Rattle.controller.proofs.cpu_interface_frame.read_at.Statement.{statement}
 use Rattle.controller.proofs.cpu_interface_frame.read_at.Tie as tie
@@ -22,7 +21,7 @@ returns : tie.Need-returns
 returns c = simp (← c .before .before .before .distributor-enabled .ensures, ← c .before .before .read-looks-up .ensures, ← c .before .absent .ensures, c .if1 .taken)
 
 read-register-requires : tie.Need-read-register-requires
-read-register-requires c κs = record { state = c .before .before .before .before .before .before .before .pre .state; served = λ q. sound-served (c .before .before .before .before .before .before .before .args .vcpu .0) (c .before .before .before .before .before .before .before .pre) (present _ (c .before .before .before .before .before .before .before .args .shape) (c .before .before .before .before .before .before .before .args .vcpu .0) (rw (c .before .before .before .read-looks-up .ensures, c .before .before .before .before .distributor-enabled .ensures) at (sym (c .before .before .absent .ensures) ∙ c .before .if1 .left)) q) }
+read-register-requires c κs = interface-read (c .before .before .before .before .before .before .before .args .vcpu .0) (c .before .before .before .before .before .before .before .pre) (rw (c .before .before .before .read-looks-up .ensures, c .before .before .before .before .distributor-enabled .ensures) at (sym (c .before .before .absent .ensures) ∙ c .before .if1 .left))
 
 enum-known-value : tie.Need-enum-known-value
 enum-known-value c = search needs
@@ -37,13 +36,18 @@ same-length-2 : tie.Need-same-length-2
 same-length-2 c = search needs
 
 returns-2 : tie.Need-returns-2
-returns-2 c = c .gave .ensures _ ∙ simp (← c .before .before .before .before .before .before .before .before .before .before .before .distributor-enabled .ensures, ← c .before .before .before .before .before .before .before .before .before .before .read-looks-up .ensures, ← c .before .before .before .before .before .before .before .before .before .absent .ensures, c .before .before .before .before .before .before .before .before .if1 .left, ← c .before .before .before .before .before .before .read-register .ensures .0, c .before .before .value .given .1, c .before .before .before .before .before .before .read-register .ensures .1)
+returns-2 c =
+    c .gave .ensures _
+    ∙ simp (← c .before .before .before .before .before .before .before .before .before .before .before .distributor-enabled .ensures, ← c .before .before .before .before .before .before .before .before .before .before .read-looks-up .ensures, ← c .before .before .before .before .before .before .before .before .before .absent .ensures, c .before .before .before .before .before .before .before .before .if1 .left, ← c .before .before .before .before .before .before .read-register .ensures .0, c .before .before .value .given .1, c .before .before .before .before .before .before .read-register .ensures .1)
 
 same-length-3 : tie.Need-same-length-3
 same-length-3 c = search needs
 
 returns-3 : tie.Need-returns-3
-returns-3 c = simp (← c .before .before .before .before .before .before .before .before .before .distributor-enabled .ensures, ← c .before .before .before .before .before .before .before .before .read-looks-up .ensures, ← c .before .before .before .before .before .before .before .absent .ensures, c .before .before .before .before .before .before .if1 .left, ← c .before .before .before .before .read-register .ensures .0, c .enum-told .given .1, c .before .before .before .before .read-register .ensures .1, full-read (c .before .before .before .before .before .before .before .before .before .before .before .before .args .shape) (c .before .before .before .before .before .before .before .before .before .before .before .before .args .vcpu .0) (c .before .before .before .before .before .before .before .before .before .before .before .before .args .register) (c .before .before .before .before .before .before .before .before .before .before .before .before .args .words .now) (sym (c .before .before .before .before .read-register .ensures .0) ∙ c .enum-told .given .1))
+returns-3 c =
+    let a = c .before .before .before .before .before .before .before .before .before .before .before .before .args in
+    let same = full-read (a .shape) (a .vcpu .0) (a .register) (a .words .now) (sym (c .before .before .before .before .read-register .ensures .0) ∙ c .enum-told .given .1) in
+    simp (← c .before .before .before .before .before .before .before .before .before .distributor-enabled .ensures, ← c .before .before .before .before .before .before .before .before .read-looks-up .ensures, ← c .before .before .before .before .before .before .before .absent .ensures, c .before .before .before .before .before .before .if1 .left, ← c .before .before .before .before .read-register .ensures .0, c .enum-told .given .1, c .before .before .before .before .read-register .ensures .1, same)
 
 pub read-at-spec : {M : Type 1} → statement M
 read-at-spec =

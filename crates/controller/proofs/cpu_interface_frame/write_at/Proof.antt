@@ -1,9 +1,8 @@
 -- `controller::cpu_interface_frame::write_at` meets its contract. Assumes nothing.
 use mathlib.Core.Path.{sym, _∙_}
-use Rattle.service.proofs.Soundness.{sound-served}
 use Rattle.wake.proofs.WakeSets.{wake-from}
 use Rattle.delivery.proofs.Sounds.{write-sound}
-use Rattle.controller.proofs.Calls.{present}
+use Rattle.controller.proofs.Calls.{present, interface-written}
 use borrow.Author.Needs.{needs}
 use Rattle.controller.proofs.cpu_interface_frame.write_at.Statement.{statement}
 use Rattle.controller.proofs.cpu_interface_frame.write_at.Tie as tie
@@ -21,16 +20,22 @@ quiet-vcpus-requires : tie.Need-quiet-vcpus-requires
 quiet-vcpus-requires c κs = search needs
 
 write-register-requires : tie.Need-write-register-requires
-write-register-requires c κs = record { state = c .before .before .before .before .before .before .before .pre .state; served = λ q. sound-served (c .before .before .before .before .before .before .before .args .vcpu .0) (c .before .before .before .before .before .before .before .pre) (present _ (c .before .before .before .before .before .before .before .args .shape) (c .before .before .before .before .before .before .before .args .vcpu .0) (rw (c .before .before .before .before .before .write-looks-up .ensures) at (sym (c .before .before .before .before .absent .ensures) ∙ c .before .before .before .if1 .left)) q) }
+write-register-requires c κs = interface-written (c .before .before .before .before .before .before .before .args .vcpu .0) (c .before .before .before .before .before .before .before .pre) (rw (c .before .before .before .before .before .write-looks-up .ensures) at (sym (c .before .before .before .before .absent .ensures) ∙ c .before .before .before .if1 .left))
 
 done-requires : tie.Need-done-requires
-done-requires c κs = rw (c .before .before .before .write-register .ensures .1) (write-sound (c .before .before .before .before .before .before .before .before .before .before .before .args .shape) (c .before .before .before .before .before .before .before .before .before .before .before .args .vcpu .0) (c .before .before .before .before .before .before .before .before .before .before .before .args .words .now) (c .before .before .before .before .before .before .before .before .before .before .before .pre) (c .before .before .before .before .before .before .before .before .before .before .before .args .register) (c .before .before .before .before .before .before .before .before .before .before .before .args .value) (λ q. present _ (c .before .before .before .before .before .before .before .before .before .before .before .args .shape) (c .before .before .before .before .before .before .before .before .before .before .before .args .vcpu .0) (rw (c .before .before .before .before .before .before .before .before .before .write-looks-up .ensures) at (sym (c .before .before .before .before .before .before .before .before .absent .ensures) ∙ c .before .before .before .before .before .before .before .if1 .left)) q))
+done-requires c κs =
+    let a = c .before .before .before .before .before .before .before .before .before .before .before .args in
+    let found = present _ (a .shape) (a .vcpu .0) (rw (c .before .before .before .before .before .before .before .before .before .write-looks-up .ensures) at (sym (c .before .before .before .before .before .before .before .before .absent .ensures) ∙ c .before .before .before .before .before .before .before .if1 .left)) in
+    rw (c .before .before .before .write-register .ensures .1) (write-sound (a .shape) (a .vcpu .0) (a .words .now) (c .before .before .before .before .before .before .before .before .before .before .before .pre) (a .register) (a .value) found)
 
 same-length : tie.Need-same-length
 same-length c = search needs
 
 returns-2 : tie.Need-returns-2
-returns-2 c = c .done .ensures ∙ simp (c .before .before .before .before .write-register .ensures .0, c .before .before .before .before .write-register .ensures .1, c .before .before .before .before .before .before .quiet-vcpus .ensures, wake-from (c .before .before .before .before .before .before .before .before .before .before .before .before .args .shape) (c .before .before .before .before .before .before .before .before .before .before .before .before .pre .state .limits), ← c .before .before .before .before .before .before .before .before .before .before .write-looks-up .ensures, ← c .before .before .before .before .before .before .before .before .before .absent .ensures, c .before .before .before .before .before .before .before .before .if1 .left)
+returns-2 c =
+    let woken = wake-from (c .before .before .before .before .before .before .before .before .before .before .before .before .args .shape) (c .before .before .before .before .before .before .before .before .before .before .before .before .pre .state .limits) in
+    c .done .ensures
+    ∙ simp (c .before .before .before .before .write-register .ensures .0, c .before .before .before .before .write-register .ensures .1, c .before .before .before .before .before .before .quiet-vcpus .ensures, woken, ← c .before .before .before .before .before .before .before .before .before .before .write-looks-up .ensures, ← c .before .before .before .before .before .before .before .before .before .absent .ensures, c .before .before .before .before .before .before .before .before .if1 .left)
 
 pub write-at-spec : {M : Type 1} → statement M
 write-at-spec =

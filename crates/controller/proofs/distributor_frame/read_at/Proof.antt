@@ -1,6 +1,6 @@
 -- `controller::distributor_frame::read_at` meets its contract. Assumes nothing.
 use mathlib.Core.Path.{sym, _∙_}
-use Rattle.controller.proofs.Calls.{present}
+use Rattle.controller.proofs.Calls.{place-read}
 use borrow.Author.Needs.{needs}
 use Rattle.controller.proofs.distributor_frame.read_at.Statement.{statement}
 use Rattle.controller.proofs.distributor_frame.read_at.Tie as tie
@@ -15,7 +15,7 @@ returns : tie.Need-returns
 returns c = simp (← c .before .before .read-looks-up .ensures, ← c .before .absent .ensures, c .if1 .taken)
 
 read-place-requires : tie.Need-read-place-requires
-read-place-requires c κs = record { state = c .before .before .before .before .pre .0 .state; located = c .before .before .before .before .pre .1; looked = λ q. present _ (c .before .before .before .before .args .shape) (c .before .before .before .before .args .vcpu .0) (rw (c .before .before .read-looks-up .ensures) at (sym (c .before .absent .ensures) ∙ c .if1 .left)) q }
+read-place-requires c κs = place-read (c .before .before .before .before .args .vcpu .0) (c .before .before .before .before .pre .0) (c .before .before .before .before .pre .1) (rw (c .before .before .read-looks-up .ensures) at (sym (c .before .absent .ensures) ∙ c .if1 .left))
 
 gave-requires : tie.Need-gave-requires
 gave-requires c κs = search needs

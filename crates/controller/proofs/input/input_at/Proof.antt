@@ -29,16 +29,24 @@ quiet-vcpus-requires : tie.Need-quiet-vcpus-requires
 quiet-vcpus-requires c κs = search needs
 
 signal-record-requires : tie.Need-signal-record-requires
-signal-record-requires c κs = record { state = c .before .before .before .before .before .before .before .before .before .before .before .pre .state; there = input-there (c .before .before .before .before .before .before .before .before .before .before .before .args .shape) (c .before .before .before .before .before .before .before .before .before .before .before .args .vcpu .0) (c .before .before .before .before .before .before .before .before .before .before .before .args .number) _ (sym (c .before .before .before .before .before .before .before .before .before .input-number .ensures) ∙ c .before .before .before .before .before .before .before .intid .given .1) (sym (c .before .before .before .before .absent .ensures) ∙ c .before .before .before .if1 .left) }
+signal-record-requires c κs =
+    let a = c .before .before .before .before .before .before .before .before .before .before .before .args in
+    record { state = c .before .before .before .before .before .before .before .before .before .before .before .pre .state; there = input-there (a .shape) (a .vcpu .0) (a .number) _ (sym (c .before .before .before .before .before .before .before .before .before .input-number .ensures) ∙ c .before .before .before .before .before .before .before .intid .given .1) (sym (c .before .before .before .before .absent .ensures) ∙ c .before .before .before .if1 .left) }
 
 done-requires : tie.Need-done-requires
-done-requires c κs = rw (c .before .before .before .signal-record .ensures) (changed-sound (c .before .before .before .before .before .before .before .before .before .before .before .before .before .before .before .args .shape) (c .before .before .before .before .before .before .before .before .before .before .before .before .before .before .before .args .vcpu .0) _ (signalled (c .before .before .before .before .before .before .before .before .before .before .before .before .before .before .before .args .signal)) (c .before .before .before .before .before .before .before .before .before .before .before .before .before .before .before .args .words .now) (c .before .before .before .before .before .before .before .before .before .before .before .before .before .before .before .pre) (input-there (c .before .before .before .before .before .before .before .before .before .before .before .before .before .before .before .args .shape) (c .before .before .before .before .before .before .before .before .before .before .before .before .before .before .before .args .vcpu .0) (c .before .before .before .before .before .before .before .before .before .before .before .before .before .before .before .args .number) _ (sym (c .before .before .before .before .before .before .before .before .before .before .before .before .before .input-number .ensures) ∙ c .before .before .before .before .before .before .before .before .before .before .before .intid .given .1) (sym (c .before .before .before .before .before .before .before .before .absent .ensures) ∙ c .before .before .before .before .before .before .before .if1 .left)))
+done-requires c κs =
+    let a = c .before .before .before .before .before .before .before .before .before .before .before .before .before .before .before .args in
+    let there = input-there (a .shape) (a .vcpu .0) (a .number) _ (sym (c .before .before .before .before .before .before .before .before .before .before .before .before .before .input-number .ensures) ∙ c .before .before .before .before .before .before .before .before .before .before .before .intid .given .1) (sym (c .before .before .before .before .before .before .before .before .absent .ensures) ∙ c .before .before .before .before .before .before .before .if1 .left) in
+    rw (c .before .before .before .signal-record .ensures) (changed-sound (a .shape) (a .vcpu .0) _ (signalled (a .signal)) (a .words .now) (c .before .before .before .before .before .before .before .before .before .before .before .before .before .before .before .pre) there)
 
 same-length : tie.Need-same-length
 same-length c = search needs
 
 returns-3 : tie.Need-returns-3
-returns-3 c = c .done .ensures ∙ simp (c .before .before .before .before .signal-record .ensures, c .before .before .before .before .before .before .quiet-vcpus .ensures, wake-from (c .before .before .before .before .before .before .before .before .before .before .before .before .before .before .before .before .args .shape) (c .before .before .before .before .before .before .before .before .before .before .before .before .before .before .before .before .pre .state .limits), ← c .before .before .before .before .before .before .before .before .before .before .before .before .before .before .input-number .ensures, c .before .before .before .before .before .before .before .before .before .before .before .before .intid .given .1, ← c .before .before .before .before .before .before .before .before .before .absent .ensures, c .before .before .before .before .before .before .before .before .if1 .left)
+returns-3 c =
+    let woken = wake-from (c .before .before .before .before .before .before .before .before .before .before .before .before .before .before .before .before .args .shape) (c .before .before .before .before .before .before .before .before .before .before .before .before .before .before .before .before .pre .state .limits) in
+    c .done .ensures
+    ∙ simp (c .before .before .before .before .signal-record .ensures, c .before .before .before .before .before .before .quiet-vcpus .ensures, woken, ← c .before .before .before .before .before .before .before .before .before .before .before .before .before .before .input-number .ensures, c .before .before .before .before .before .before .before .before .before .before .before .before .intid .given .1, ← c .before .before .before .before .before .before .before .before .before .absent .ensures, c .before .before .before .before .before .before .before .before .if1 .left)
 
 pub input-at-spec : {M : Type 1} → statement M
 input-at-spec =
