@@ -10,14 +10,14 @@ use Rattle.register.specs.declared.frame.AccessWidth.{AccessWidth}
 use Rattle.register.specs.declared.frame.Refusal.{Refusal}
 use Rattle.register.specs.declared.frame.Refusal.the-variants.{Access, Width, Vcpu, Limits, ShortState, BrokenState, FullStack, Input}
 use Rattle.register.specs.Frame.{refusalNumber}
-use Rattle.controller.specs.declared.answer.Answer.{Answer}
-use Rattle.controller.specs.declared.answer.Answer.the-variants.{Done, Refused}
-use Rattle.controller.specs.declared.answer.Reply.{Reply}
-use Rattle.controller.specs.Answer.{Outcome, outcome}
+use Rattle.answer.specs.declared.Answer.{Answer}
+use Rattle.answer.specs.declared.Answer.the-variants.{Done, Refused}
+use Rattle.answer.specs.declared.Reply.{Reply}
+use Rattle.answer.specs.Answer.{Outcome, outcome}
 use Rattle.controller.specs.Start.{setup}
-use Rattle.controller.specs.DistributorFrame.{readV2Distributor, writeV2Distributor}
-use Rattle.controller.specs.CpuInterfaceFrame.{readV2CpuInterface, writeV2CpuInterface}
-use Rattle.controller.specs.Input.{setLevel, pulse}
+use Rattle.distributor_frame.specs.DistributorFrame.{readV2Distributor, writeV2Distributor}
+use Rattle.cpu_interface_frame.specs.CpuInterfaceFrame.{readV2CpuInterface, writeV2CpuInterface}
+use Rattle.input.specs.Input.{setLevel, pulse}
 
 -- a refusal is known by its number, and no number is 0
 numbered : (r q : Refusal) → refusalNumber r ≡ refusalNumber q → r ≡ q

@@ -1,5 +1,1 @@
-pub mod Answer
-pub mod CpuInterfaceFrame
-pub mod DistributorFrame
-pub mod Input
 pub mod Start

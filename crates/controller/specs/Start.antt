@@ -10,7 +10,7 @@ use Rattle.state.specs.declared.lent.Limited.the-variants.{Within, Outside}
 use Rattle.state.specs.Layout.{size}
 use Rattle.state.specs.Lent.{limited}
 use Rattle.state.specs.Fresh.{fresh}
-use Rattle.controller.specs.Answer.{Outcome, refused, gave}
+use Rattle.answer.specs.Answer.{Outcome, refused, gave}
 
 abbrev pub setupOf : Limited → List ℕ → Outcome
 setupOf Outside s = refused Limits s

@@ -1,9 +1,5 @@
 // The public calls: setup, the two frames under their Rust names, and device inputs. None asks anything of its caller. Mirrors the entries
 // of v2.rs.
-pub mod answer;
-pub mod cpu_interface_frame;
-pub mod distributor_frame;
-pub mod input;
 pub mod start;
 
 pub use answer::Answer;

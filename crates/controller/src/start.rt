@@ -1,9 +1,9 @@
 // Setup: a fresh controller in lent words.
 ghost use mathlib.Core.Path.{_≡_};
-ghost use Rattle.controller.specs.Answer.{outcome};
+ghost use Rattle.answer.specs.Answer.{outcome};
 ghost use Rattle.controller.specs.Start.{setup};
-use crate::answer::Answer;
-use crate::answer::gave;
+use answer::Answer;
+use answer::gave;
 use register::Refusal;
 use state::Limited;
 use state::fresh::fill;

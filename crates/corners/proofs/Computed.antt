@@ -28,14 +28,14 @@ use Rattle.acknowledge.specs.Acknowledge.{offer, lowestFrom, sourceOf, pendIfLe
 use Rattle.end.specs.End.{retire, deactivated, retired, ended, endRetired}
 use Rattle.wake.specs.Wake.{wakeSet}
 use Rattle.controller.specs.Start as start
-use Rattle.controller.specs.DistributorFrame.{readV2Distributor, writeV2Distributor}
-use Rattle.controller.specs.CpuInterfaceFrame.{readV2CpuInterface, writeV2CpuInterface}
+use Rattle.distributor_frame.specs.DistributorFrame.{readV2Distributor, writeV2Distributor}
+use Rattle.cpu_interface_frame.specs.CpuInterfaceFrame.{readV2CpuInterface, writeV2CpuInterface}
 use Rattle.state.specs.declared.layout.Shape.{Shape}
 use Rattle.state.specs.Layout.{size}
 use Rattle.state.specs.Fresh.{startOf}
 use Rattle.state.specs.Lent.{inLimits, shaped}
 use Rattle.state.proofs.Tests.{left-true, right-true}
-use Rattle.controller.specs.Answer.{Outcome, gave}
+use Rattle.answer.specs.Answer.{Outcome, gave}
 use Rattle.corners.specs.Corners.{Case, gives, right, zeros, setup, lent, caseRight, allRight, corners}
 
 -- the first n words, each by its place; the rest stay. `fresh` one word after the other, so that a computation builds the state once

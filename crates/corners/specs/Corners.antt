@@ -5,7 +5,7 @@ use Prim.Native.Nat.{ℕ, zero, suc, _^_, _-_}
 use lib.Dec.{eqb}
 use Rattle.register.specs.declared.frame.AccessWidth.{AccessWidth}
 use Rattle.register.specs.declared.frame.AccessWidth.the-variants.{Byte, Word, Dword, Qword}
-use Rattle.controller.specs.Answer.{Outcome}
+use Rattle.answer.specs.Answer.{Outcome}
 use Rattle.history.specs.History.{Call, Setup, ReadDistributor, WriteDistributor, ReadCpuInterface, WriteCpuInterface, called}
 
 -- a call and its answer: refusal, value, wake set, retired number

@@ -4,11 +4,11 @@ use mathlib.Core.Bool.{Bool}
 use mathlib.Core.List.{List, [], _∷_}
 use Prim.Native.Nat.{ℕ}
 use Rattle.register.specs.declared.frame.AccessWidth.{AccessWidth}
-use Rattle.controller.specs.Answer.{Outcome}
+use Rattle.answer.specs.Answer.{Outcome}
 use Rattle.controller.specs.Start.{setup}
-use Rattle.controller.specs.DistributorFrame.{readV2Distributor, writeV2Distributor}
-use Rattle.controller.specs.CpuInterfaceFrame.{readV2CpuInterface, writeV2CpuInterface}
-use Rattle.controller.specs.Input.{setLevel, pulse}
+use Rattle.distributor_frame.specs.DistributorFrame.{readV2Distributor, writeV2Distributor}
+use Rattle.cpu_interface_frame.specs.CpuInterfaceFrame.{readV2CpuInterface, writeV2CpuInterface}
+use Rattle.input.specs.Input.{setLevel, pulse}
 
 -- vCPU, offset, width, value; for inputs vCPU and number
 pub data Call : Type 0 where

@@ -2,8 +2,8 @@
 use mathlib.Core.Path.{_≡_, refl, subst}
 use mathlib.Core.List.{List}
 use Prim.Native.Nat.{ℕ}
-use Rattle.controller.specs.declared.answer.Answer.{Answer}
-use Rattle.controller.specs.Answer.{Outcome, outcome}
+use Rattle.answer.specs.declared.Answer.{Answer}
+use Rattle.answer.specs.Answer.{Outcome, outcome}
 use Rattle.script.specs.Text.{Put}
 use Rattle.runner.specs.Runner.{answered, textOf, Prints}
 

@@ -7,11 +7,11 @@ use Prim.Native.Nat.{ℕ, _+_, _≤_, _<_}
 use lib.Dec.{eqb, ltb}
 use lib.ListN.{length, take}
 use lib.Seq.{slice}
-use Rattle.controller.specs.declared.answer.Answer.{Answer}
-use Rattle.controller.specs.Answer.{Outcome, refusalIn, valueIn, wakeIn, retiredIn}
-use Rattle.controller.specs.CpuInterfaceFrame.{readV2CpuInterface, writeV2CpuInterface}
-use Rattle.controller.specs.DistributorFrame.{readV2Distributor, writeV2Distributor}
-use Rattle.controller.specs.Input.{setLevel, pulse}
+use Rattle.answer.specs.declared.Answer.{Answer}
+use Rattle.answer.specs.Answer.{Outcome, refusalIn, valueIn, wakeIn, retiredIn}
+use Rattle.cpu_interface_frame.specs.CpuInterfaceFrame.{readV2CpuInterface, writeV2CpuInterface}
+use Rattle.distributor_frame.specs.DistributorFrame.{readV2Distributor, writeV2Distributor}
+use Rattle.input.specs.Input.{setLevel, pulse}
 use Rattle.controller.specs.Start.{setup}
 use Rattle.script.specs.declared.request.Request.{Request}
 use Rattle.script.specs.declared.request.Request.the-variants.{Setup, ReadDistributor, WriteDistributor, ReadCpuInterface, WriteCpuInterface, SetLevel, Pulse, Unknown}

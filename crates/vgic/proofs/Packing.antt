@@ -3,8 +3,8 @@ use mathlib.Core.Path.{_≡_, ap, _∙_}
 use mathlib.Core.List.{List}
 use Prim.Native.Nat.{ℕ, _/_, _%_, _^_, _<_}
 use native.Mathlib.Omega.{arith}
-use Rattle.controller.specs.declared.answer.Answer.{Answer}
-use Rattle.controller.specs.Answer.{Outcome, outcome}
+use Rattle.answer.specs.declared.Answer.{Answer}
+use Rattle.answer.specs.Answer.{Outcome, outcome}
 use Rattle.vgic.specs.Packed.{packed, Answers}
 
 pub answers : (number : ℕ) (a : Answer) → ((s : List ℕ) → number ≡ packed (outcome a s)) → (s : List ℕ) (o : Outcome) → outcome a s ≡ o → Answers number s o

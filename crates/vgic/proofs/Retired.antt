@@ -26,8 +26,8 @@ use Rattle.state.proofs.Validated.{validated-held}
 use Rattle.service.specs.Service.{dropped}
 use Rattle.end.specs.End.{servedHere, retired, deactivates, decodedEoi, dirRetired, endRetired, eoiRetired}
 use Rattle.cpu_interface.specs.CpuInterface.{writeRegister, writeRetired, writeLooksUp}
-use Rattle.controller.specs.Answer.{refused, went, onState, absent}
-use Rattle.controller.specs.CpuInterfaceFrame.{writeAccess, writeV2CpuInterface}
+use Rattle.answer.specs.Answer.{refused, went, onState, absent}
+use Rattle.cpu_interface_frame.specs.CpuInterfaceFrame.{writeAccess, writeV2CpuInterface}
 
 module _ (shape : Shape) (l : Limits shape) (v : ℕ) where
   retired-below : (n : ℕ) (s : List ℕ) → retired shape v n s < 1024

@@ -11,7 +11,7 @@ use Rattle.state.specs.declared.lent.Limited.{Limited}
 use Rattle.state.specs.declared.lent.Limited.the-variants.{Within, Outside}
 use Rattle.state.specs.Layout.{size}
 use Rattle.state.specs.Lent.{limited}
-use Rattle.controller.specs.Answer.{Outcome, refused}
+use Rattle.answer.specs.Answer.{Outcome, refused}
 
 -- bits 0 to 31 the value, 32 to 47 the retired number, 48 to 55 the wake set, 56 to 63 the refusal
 unfoldable pub packed : Outcome → ℕ

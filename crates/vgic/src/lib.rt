@@ -2,11 +2,11 @@
 ghost use mathlib.Core.Path.{_≡_};
 ghost use mathlib.Core.List.{List};
 ghost use Prim.Native.Nat.{ℕ};
-ghost use Rattle.controller.specs.Answer.{outcome};
+ghost use Rattle.answer.specs.Answer.{outcome};
 ghost use Rattle.controller.specs.Start.{setup};
-ghost use Rattle.controller.specs.DistributorFrame.{readV2Distributor, writeV2Distributor};
-ghost use Rattle.controller.specs.CpuInterfaceFrame.{readV2CpuInterface, writeV2CpuInterface};
-ghost use Rattle.controller.specs.Input.{setLevel, pulse};
+ghost use Rattle.distributor_frame.specs.DistributorFrame.{readV2Distributor, writeV2Distributor};
+ghost use Rattle.cpu_interface_frame.specs.CpuInterfaceFrame.{readV2CpuInterface, writeV2CpuInterface};
+ghost use Rattle.input.specs.Input.{setLevel, pulse};
 ghost use Rattle.vgic.specs.Packed.{packed, Answers, accessed, stateWords};
 use controller::Answer;
 use interrupt::GicVcpuId;

@@ -1,7 +1,7 @@
 -- `vgic::vgic_read_v2_distributor` meets its contract. Assumes nothing.
 use mathlib.Core.Path.{_∙_}
 use Rattle.register.specs.declared.frame.Refusal.the-variants.{Width}
-use Rattle.controller.specs.declared.answer.Answer.the-variants.{Refused}
+use Rattle.answer.specs.declared.Answer.the-variants.{Refused}
 use Rattle.vgic.proofs.Packing.{answers}
 use borrow.Author.Needs.{needs}
 use Rattle.vgic.proofs.vgic_read_v2_distributor.Statement.{statement}

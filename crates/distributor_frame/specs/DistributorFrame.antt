@@ -1,0 +1,42 @@
+-- The Distributor's frame: document 01, "Refusal numbers" ("One exception, from the Rust: at private registers 3 comes before 2") and
+-- "Distributor places". "Bits of a written value above the access width are ignored": registers take 4 bytes at most, and a byte array takes
+-- as many bytes as the access is wide.
+use mathlib.Core.Bool.{true}
+use mathlib.Core.List.{List}
+use Prim.Native.Nat.{ℕ, _%_, _^_}
+use Rattle.register.specs.declared.frame.AccessWidth.{AccessWidth}
+use Rattle.register.specs.declared.frame.Refusal.the-variants as refusal
+use Rattle.register.specs.declared.distributor.Place.{Place}
+use Rattle.register.specs.declared.distributor.DistributorAccess.{DistributorAccess}
+use Rattle.register.specs.declared.distributor.DistributorAccess.the-variants.{Refused, PrivateWidth, At}
+use Rattle.register.specs.Distributor.{locateDistributor}
+use Rattle.state.specs.declared.layout.Shape.{Shape}
+use Rattle.state.specs.Lent.{validated}
+use Rattle.places.specs.Places.{readLooksUp, writeLooksUp, readPlace, writePlace}
+use Rattle.answer.specs.Answer.{Outcome, refused, gave, went, onState, lookedUp}
+
+abbrev pub privateWidth : Shape → ℕ → List ℕ → Outcome
+privateWidth shape v s = lookedUp true shape v s (refused refusal.Width s)
+
+abbrev pub readAt : Shape → ℕ → Place → AccessWidth → List ℕ → Outcome
+readAt shape v place width s = lookedUp (readLooksUp (place .class) (place .private)) shape v s (gave (readPlace shape v place width s) s)
+
+abbrev pub writeAt : Shape → ℕ → Place → AccessWidth → ℕ → List ℕ → Outcome
+writeAt shape v place width value s =
+    lookedUp (writeLooksUp (place .class) (place .private) value) shape v s (went shape 1023 s (writePlace shape v place width value s))
+
+abbrev pub readAccess : Shape → ℕ → DistributorAccess → AccessWidth → List ℕ → Outcome
+readAccess shape v (Refused r) width s = refused r s
+readAccess shape v PrivateWidth width s = privateWidth shape v s
+readAccess shape v (At place) width s = readAt shape v place width s
+
+abbrev pub writeAccess : Shape → ℕ → DistributorAccess → AccessWidth → ℕ → List ℕ → Outcome
+writeAccess shape v (Refused r) width value s = refused r s
+writeAccess shape v PrivateWidth width value s = privateWidth shape v s
+writeAccess shape v (At place) width value s = writeAt shape v place width value s
+
+unfoldable pub readV2Distributor : ℕ → ℕ → AccessWidth → List ℕ → Outcome
+readV2Distributor v offset width s = onState (validated s) s (λ shape. readAccess shape v (locateDistributor offset width) width s)
+
+unfoldable pub writeV2Distributor : ℕ → ℕ → AccessWidth → ℕ → List ℕ → Outcome
+writeV2Distributor v offset width value s = onState (validated s) s (λ shape. writeAccess shape v (locateDistributor offset width) width (value % 2 ^ 32) s)

@@ -1,0 +1,72 @@
+-- `input::input_at` meets its contract. Assumes nothing.
+use mathlib.Core.Path.{sym, _∙_}
+use Rattle.input.specs.Input.{signalled}
+use Rattle.wake.proofs.WakeSets.{wake-from}
+use Rattle.input.proofs.Passed.{changed-sound, input-there}
+use borrow.Author.Needs.{needs}
+use Rattle.input.proofs.input_at.Statement.{statement}
+use Rattle.input.proofs.input_at.Tie as tie
+
+input-number-requires : tie.Need-input-number-requires
+input-number-requires c κs = search needs
+
+enum-known-intid : tie.Need-enum-known-intid
+enum-known-intid c = search needs
+
+enum-told : tie.Need-enum-told
+enum-told c = search needs
+
+returns : tie.Need-returns
+returns c = simp (← c .before .before .input-number .ensures, c .enum-told .given .1)
+
+absent-requires : tie.Need-absent-requires
+absent-requires c κs = search needs
+
+returns-2 : tie.Need-returns-2
+returns-2 c = simp (← c .before .before .before .before .before .before .input-number .ensures, c .before .before .before .before .intid .given .1, ← c .before .absent .ensures, c .if1 .taken)
+
+quiet-vcpus-requires : tie.Need-quiet-vcpus-requires
+quiet-vcpus-requires c κs = search needs
+
+signal-record-requires : tie.Need-signal-record-requires
+signal-record-requires c κs =
+    let a = c .before .before .before .before .before .before .before .before .before .before .before .args in
+    record { state = c .before .before .before .before .before .before .before .before .before .before .before .pre .state; there = input-there (a .shape) (a .vcpu .0) (a .number) _ (sym (c .before .before .before .before .before .before .before .before .before .input-number .ensures) ∙ c .before .before .before .before .before .before .before .intid .given .1) (sym (c .before .before .before .before .absent .ensures) ∙ c .before .before .before .if1 .left) }
+
+done-requires : tie.Need-done-requires
+done-requires c κs =
+    let a = c .before .before .before .before .before .before .before .before .before .before .before .before .before .before .before .args in
+    let there = input-there (a .shape) (a .vcpu .0) (a .number) _ (sym (c .before .before .before .before .before .before .before .before .before .before .before .before .before .input-number .ensures) ∙ c .before .before .before .before .before .before .before .before .before .before .before .intid .given .1) (sym (c .before .before .before .before .before .before .before .before .absent .ensures) ∙ c .before .before .before .before .before .before .before .if1 .left) in
+    rw (c .before .before .before .signal-record .ensures) (changed-sound (a .shape) (a .vcpu .0) _ (signalled (a .signal)) (a .words .now) (c .before .before .before .before .before .before .before .before .before .before .before .before .before .before .before .pre) there)
+
+same-length : tie.Need-same-length
+same-length c = search needs
+
+returns-3 : tie.Need-returns-3
+returns-3 c =
+    c .done .ensures
+    ∙ simp (
+      c .before .before .before .before .signal-record .ensures,
+      c .before .before .before .before .before .before .quiet-vcpus .ensures,
+      wake-from (c .before .before .before .before .before .before .before .before .before .before .before .before .before .before .before .before .args .shape) (c .before .before .before .before .before .before .before .before .before .before .before .before .before .before .before .before .pre .state .limits),
+      ← c .before .before .before .before .before .before .before .before .before .before .before .before .before .before .input-number .ensures,
+      c .before .before .before .before .before .before .before .before .before .before .before .before .intid .given .1,
+      ← c .before .before .before .before .before .before .before .before .before .absent .ensures,
+      c .before .before .before .before .before .before .before .before .if1 .left,
+    )
+
+pub input-at-spec : {M : Type 1} → statement M
+input-at-spec =
+    tie.close
+    (tie.spec
+    input-number-requires
+    enum-known-intid
+    enum-told
+    returns
+    absent-requires
+    returns-2
+    quiet-vcpus-requires
+    signal-record-requires
+    done-requires
+    same-length
+    returns-3)

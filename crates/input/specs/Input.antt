@@ -1,0 +1,38 @@
+-- Device inputs: document 01, "Port order" 1 ("Device input calls `set_level` and `pulse`") and "Refusal numbers": "Device input: 6, 8, 3"; the
+-- vCPU is not looked up for SPI inputs.
+use mathlib.Core.Bool.{Bool, cond, _&&_}
+use mathlib.Core.List.{List}
+use Prim.Native.Nat.{ℕ}
+use lib.Dec.{leb, ltb}
+use Rattle.interrupt.specs.declared.record.InterruptRecord.{InterruptRecord}
+use Rattle.interrupt.specs.Record as record-of
+use Rattle.register.specs.declared.frame.Refusal.the-variants as refusal
+use Rattle.state.specs.declared.layout.Shape.{Shape}
+use Rattle.state.specs.Lent.{validated}
+use Rattle.state.specs.Words.{changed}
+use Rattle.input.specs.declared.Signal.{Signal}
+use Rattle.input.specs.declared.Signal.the-variants.{Level, Edge}
+use Rattle.input.specs.declared.InputNumber.{InputNumber}
+use Rattle.input.specs.declared.InputNumber.the-variants.{Device, Outside}
+use Rattle.answer.specs.Answer.{Outcome, refused, went, onState, lookedUp}
+
+abbrev pub signalled : Signal → InterruptRecord → InterruptRecord
+signalled (Level asserted) r = record-of.setLevel r asserted
+signalled Edge r = record-of.pulse r
+
+-- 8: "the number is 0 to 15, or not below the limit"
+unfoldable pub inputOf : Shape → ℕ → InputNumber
+inputOf shape n = cond (leb 16 n && ltb n (shape .limit)) (Device (record { 0 = n })) Outside
+
+abbrev pub inputAt : Shape → ℕ → Signal → InputNumber → List ℕ → Outcome
+inputAt shape v signal Outside s = refused refusal.Input s
+inputAt shape v signal (Device n) s = lookedUp (ltb (n .0) 32) shape v s (went shape 1023 s (changed shape v (n .0) (signalled signal) s))
+
+unfoldable pub deviceInput : Signal → ℕ → ℕ → List ℕ → Outcome
+deviceInput signal v n s = onState (validated s) s (λ shape. inputAt shape v signal (inputOf shape n) s)
+
+abbrev pub setLevel : ℕ → ℕ → Bool → List ℕ → Outcome
+setLevel v n asserted s = deviceInput (Level asserted) v n s
+
+abbrev pub pulse : ℕ → ℕ → List ℕ → Outcome
+pulse v n s = deviceInput Edge v n s

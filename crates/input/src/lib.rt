@@ -1,0 +1,97 @@
+// Device inputs: a line that is set, and a pulse.
+ghost use mathlib.Core.Path.{_≡_};
+ghost use Rattle.state.specs.Words.{Reached, changed};
+ghost use Rattle.service.specs.Service.{Sound};
+ghost use Rattle.answer.specs.Answer.{outcome};
+ghost use Rattle.input.specs.Input.{signalled, inputOf, inputAt, deviceInput, setLevel, pulse};
+use answer::Answer;
+use answer::absent;
+use answer::done;
+use interrupt::GicVcpuId;
+use interrupt::IntId;
+use interrupt::InterruptRecord;
+use register::Refusal;
+use state::Lent;
+use state::Shape;
+use state::lent::validate_state;
+use state::words::put_record;
+use state::words::record;
+use wake::quiet_vcpus;
+
+// What a device does to its interrupt.
+pub enum Signal {
+    Level(bool),
+    Edge,
+}
+
+// A number that a device has, or none's: SGIs are no device's.
+pub enum InputNumber {
+    Device(IntId),
+    Outside,
+}
+
+fn signalled(record: InterruptRecord, signal: Signal) -> InterruptRecord
+    ensures { λ r. ⌜ r ≡ signalled signal «record» ⌝ }
+{
+    match signal {
+        Signal::Level(asserted) => record.leveled(asserted),
+        Signal::Edge => record.pulsed(),
+    }
+}
+
+fn input_number(shape: Shape, number: u64) -> InputNumber
+    ensures { λ r. ⌜ r ≡ inputOf shape number ⌝ }
+{
+    if number < 16 {
+        return InputNumber::Outside;
+    }
+    if number < shape.limit as u64 {
+        InputNumber::Device(IntId(number as u32))
+    } else {
+        InputNumber::Outside
+    }
+}
+
+fn signal_record(words: &mut [u32], shape: Shape, vcpu: GicVcpuId, intid: IntId, signal: Signal)
+    requires { ⌜ Reached shape (vcpu .0) (intid .0) (now words) ⌝ }
+    ensures { λ r. ⌜ now (words .exit) ≡ changed shape (vcpu .0) (intid .0) (signalled signal) (now (words .entry)) ⌝ }
+{
+    let changed = signalled(record(words, shape, vcpu, intid), signal);
+    put_record(words, shape, vcpu, intid, changed);
+}
+
+fn input_at(words: &mut [u32], shape: Shape, vcpu: GicVcpuId, number: u64, signal: Signal) -> Answer
+    requires { ⌜ Sound shape (now words) ⌝ }
+    ensures { λ r. ⌜ outcome r (now (words .exit)) ≡ inputAt shape (vcpu .0) signal (inputOf shape number) (now (words .entry)) ⌝ }
+{
+    let InputNumber::Device(intid) = input_number(shape, number) else {
+        return Answer::Refused(Refusal::Input);
+    };
+    if absent(shape, vcpu, intid.0 < 32) {
+        return Answer::Refused(Refusal::Vcpu);
+    }
+    let quiet = quiet_vcpus(words, shape);
+    signal_record(words, shape, vcpu, intid, signal);
+    done(words, shape, quiet, IntId::SPURIOUS)
+}
+
+fn device_input(words: &mut [u32], vcpu: GicVcpuId, number: u64, signal: Signal) -> Answer
+    ensures { λ r. ⌜ outcome r (now (words .exit)) ≡ deviceInput signal (vcpu .0) number (now (words .entry)) ⌝ }
+{
+    let Lent::Sound(shape) = validate_state(words) else {
+        return Answer::Refused(Refusal::BrokenState);
+    };
+    input_at(words, shape, vcpu, number, signal)
+}
+
+pub fn set_level(words: &mut [u32], vcpu: GicVcpuId, number: u64, asserted: bool) -> Answer
+    ensures { λ r. ⌜ outcome r (now (words .exit)) ≡ setLevel (vcpu .0) number asserted (now (words .entry)) ⌝ }
+{
+    device_input(words, vcpu, number, Signal::Level(asserted))
+}
+
+pub fn pulse(words: &mut [u32], vcpu: GicVcpuId, number: u64) -> Answer
+    ensures { λ r. ⌜ outcome r (now (words .exit)) ≡ pulse (vcpu .0) number (now (words .entry)) ⌝ }
+{
+    device_input(words, vcpu, number, Signal::Edge)
+}
