@@ -11,7 +11,7 @@ use lib.ListN.{length, getD, take, set, take-append-drop}
 use lib.Seq.{slice, slice-empty, take-take, take-suc, take-suc-set, length-take-le, drop-append-le}
 use borrow.Author.Tests.{lt-ltb, le-ltb, eq-eqb, ne-eqb, ltb-true, ltb-false}
 use Rattle.script.specs.Text.{Put}
-use Rattle.runner.specs.declared.input.Progress.{Progress}
+use Rattle.runner.specs.declared.blocks.Progress.{Progress}
 use Rattle.script.proofs.Puts.{put-then}
 use Rattle.runner.specs.Runner.{Run, lineAnswer, Prints, kept, after, ran, Went, Ran, Fed}
 

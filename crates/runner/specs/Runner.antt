@@ -17,7 +17,7 @@ use Rattle.script.specs.declared.request.Request.{Request}
 use Rattle.script.specs.declared.request.Request.the-variants.{Setup, ReadDistributor, WriteDistributor, ReadCpuInterface, WriteCpuInterface, SetLevel, Pulse, Unknown}
 use Rattle.script.specs.Line.{requestOf}
 use Rattle.script.specs.Text.{answerText, unknownText, Put}
-use Rattle.runner.specs.declared.input.Progress.{Progress}
+use Rattle.runner.specs.declared.blocks.Progress.{Progress}
 
 -- a text, and the words after it
 pub record Printed : Type 0 where

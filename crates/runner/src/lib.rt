@@ -1,9 +1,9 @@
 // The runner: bytes in, answers out. A line is kept in lent bytes until its newline comes, so that it may cross blocks of input and be of
 // any length.
-pub mod answer;
-pub mod input;
+pub mod blocks;
+pub mod lines;
 
-pub use answer::answer_line;
-pub use input::KEPT;
-pub use input::Progress;
-pub use input::feed;
+pub use blocks::KEPT;
+pub use blocks::Progress;
+pub use blocks::feed;
+pub use lines::answer_line;

@@ -1,7 +1,7 @@
 -- `runner::put` meets its contract. Assumes nothing.
 use borrow.Author.Needs.{needs}
-use Rattle.runner.proofs.answer.put.Statement.{statement}
-use Rattle.runner.proofs.answer.put.Tie as tie
+use Rattle.runner.proofs.lines.put.Statement.{statement}
+use Rattle.runner.proofs.lines.put.Tie as tie
 
 refusal-requires : tie.Need-refusal-requires
 refusal-requires c κs = search needs

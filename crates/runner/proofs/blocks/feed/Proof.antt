@@ -9,8 +9,8 @@ use borrow.Author.Needs.{needs}
 use Rattle.script.proofs.Puts.{put-inside}
 use Rattle.runner.specs.Runner.{Ran}
 use Rattle.runner.proofs.Running.{ran-none, ran-then, slice-more}
-use Rattle.runner.proofs.input.feed.Statement.{statement}
-use Rattle.runner.proofs.input.feed.Tie as tie
+use Rattle.runner.proofs.blocks.feed.Statement.{statement}
+use Rattle.runner.proofs.blocks.feed.Tie as tie
 
 abbrev Inv-loop : tie.InvT-loop
 Inv-loop words₀ line₀ begun input from out₀ at₀ kept₀ i₀ words line out at kept i =

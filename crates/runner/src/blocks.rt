@@ -3,7 +3,7 @@ ghost use mathlib.Core.List.{[], _∷_};
 ghost use Prim.Native.Nat.{_≤_};
 ghost use lib.ListN.{length};
 ghost use Rattle.runner.specs.Runner.{Begun, Ready, Ran, Fed};
-use crate::answer::answer_line;
+use crate::lines::answer_line;
 
 // The bytes of a line that are kept: one more than any form has.
 pub const KEPT: usize = 81;

@@ -1,8 +1,8 @@
 -- `runner::answer_line` meets its contract. Assumes nothing.
 use Rattle.runner.specs.Runner.{lineAnswer}
 use borrow.Author.Needs.{needs}
-use Rattle.runner.proofs.answer.answer_line.Statement.{statement}
-use Rattle.runner.proofs.answer.answer_line.Tie as tie
+use Rattle.runner.proofs.lines.answer_line.Statement.{statement}
+use Rattle.runner.proofs.lines.answer_line.Tie as tie
 
 parse-line-requires : tie.Need-parse-line-requires
 parse-line-requires c κs = search needs

@@ -3,8 +3,8 @@ use mathlib.Core.Path.{sym}
 use lib.Seq.{length-take-le}
 use Rattle.runner.proofs.Running.{newline, byte-kept, byte-dropped}
 use borrow.Author.Needs.{needs}
-use Rattle.runner.proofs.input.step.Statement.{statement}
-use Rattle.runner.proofs.input.step.Tie as tie
+use Rattle.runner.proofs.blocks.step.Statement.{statement}
+use Rattle.runner.proofs.blocks.step.Tie as tie
 
 slice-reshare-prefix-answer-line : tie.Need-slice-reshare-prefix-answer-line
 slice-reshare-prefix-answer-line c = search needs

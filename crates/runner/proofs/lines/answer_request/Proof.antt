@@ -3,8 +3,8 @@ use mathlib.Core.Path.{refl}
 use Rattle.runner.specs.Runner.{called}
 use Rattle.runner.proofs.Printing.{prints}
 use borrow.Author.Needs.{needs}
-use Rattle.runner.proofs.answer.answer_request.Statement.{statement}
-use Rattle.runner.proofs.answer.answer_request.Tie as tie
+use Rattle.runner.proofs.lines.answer_request.Statement.{statement}
+use Rattle.runner.proofs.lines.answer_request.Tie as tie
 
 enum-known-request : tie.Need-enum-known-request
 enum-known-request c = search needs
