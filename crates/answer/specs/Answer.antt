@@ -1,6 +1,6 @@
 -- What a public call comes to: document 01, "Refusal numbers" ("Each leaves all lent state as found"; "Order: 6, then 1, then 2, then 3, then
 -- 7") and "The runner's lines" ("refusal, value, wake set and retired number (1023 for none)"). A call's promise is one equation between
--- its outcome and a definition of this folder.
+-- its outcome and a definition in its own crate.
 use mathlib.Core.Bool.{Bool, cond, _&&_}
 use mathlib.Core.List.{List}
 use Prim.Native.Nat.{ℕ}

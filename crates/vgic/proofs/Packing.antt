@@ -1,4 +1,4 @@
--- A packed answer is the call's outcome, and its fields read back: a retired number is below 1024 in every call. Assumes nothing.
+-- A packed answer is the call's outcome, and its fields read back, as long as each fits its place. Assumes nothing.
 use mathlib.Core.Path.{_≡_, ap, _∙_}
 use mathlib.Core.List.{List}
 use Prim.Native.Nat.{ℕ, _/_, _%_, _^_, _<_}

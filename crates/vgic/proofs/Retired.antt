@@ -1,4 +1,5 @@
--- What a call retires is below 1024, so that a packed answer keeps it whole. Assumes nothing.
+-- What a write to a CPU interface retires is below 1024, so that a packed answer keeps it whole; the other calls' definitions have 1023.
+-- Assumes nothing.
 use mathlib.Core.Path.{_≡_, refl}
 use mathlib.Core.Bool.{Bool, true, false, cond, _&&_}
 use mathlib.Core.List.{List}
