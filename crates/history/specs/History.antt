@@ -33,3 +33,18 @@ called (Pulse v n) s = pulse v n s
 unfoldable pub run : List Call → List ℕ → List ℕ
 run [] s = s
 run (c ∷ cs) s = run cs (called c s .state)
+
+-- what a call hands out beside the state: "refusal, value, wake set and retired number"
+pub record Handed : Type 0 where
+  pub refusal : ℕ
+  pub value : ℕ
+  pub wake : ℕ
+  pub retired : ℕ
+
+abbrev pub handed : Outcome → Handed
+handed o = record { refusal = o .refusal; value = o .value; wake = o .wake; retired = o .retired }
+
+-- and a history: an answer for each of its calls, in their order
+unfoldable pub answers : List Call → List ℕ → List Handed
+answers [] s = []
+answers (c ∷ cs) s = handed (called c s) ∷ answers cs (called c s .state)
