@@ -5,7 +5,6 @@ use mathlib.Core.Bool.{false}
 use mathlib.Core.List.{List}
 use Prim.Native.Nat.{ℕ}
 use Rattle.register.specs.declared.«cpu_interface».CpuInterfaceRegister.{CpuInterfaceRegister}
-use Rattle.register.specs.declared.«cpu_interface».CpuInterfaceRegister.the-variants.{Ctlr, Pmr, Bpr, Iar, Eoir, Rpr, Hppir, Abpr, Aiar, Aeoir, Ahppir, Apr, Iidr, Dir, Other}
 use Rattle.state.specs.declared.layout.Shape.{Shape}
 use Rattle.state.specs.Words.{enabledAt}
 use Rattle.service.specs.Service.{Sound}
@@ -14,6 +13,7 @@ use Rattle.acknowledge.specs.declared.Read.the-variants.{StackFull}
 use Rattle.acknowledge.specs.Acknowledge.{refusalOf}
 use Rattle.cpu_interface.specs.CpuInterface.{readRegister, afterRead, readLooksUp, writeLooksUp, Reading, Writing}
 use Rattle.delivery.proofs.Answers.{full-unchanged}
+use Rattle.delivery.proofs.Registers.{each-read}
 use Rattle.answer.specs.Answer.{absent}
 use Rattle.answer.proofs.Present.{present}
 
@@ -25,18 +25,4 @@ module _ {shape : Shape} {s : List ℕ} (v : ℕ) (h : Sound shape s) where
   interface-written e = record { state = h .state; served = λ q. sound-served v h (present _ shape v e q) }
 
 pub full-read : (shape : Shape) (v : ℕ) (register : CpuInterfaceRegister) (s : List ℕ) → readRegister shape v register s ≡ StackFull → afterRead shape v register s ≡ s
-full-read shape v Ctlr s e = refl
-full-read shape v Pmr s e = refl
-full-read shape v Bpr s e = refl
-full-read shape v Iar s e = full-unchanged shape v s (ap refusalOf e)
-full-read shape v Eoir s e = refl
-full-read shape v Rpr s e = refl
-full-read shape v Hppir s e = refl
-full-read shape v Abpr s e = refl
-full-read shape v Aiar s e = full-unchanged shape v s (ap refusalOf e)
-full-read shape v Aeoir s e = refl
-full-read shape v Ahppir s e = refl
-full-read shape v Apr s e = refl
-full-read shape v Iidr s e = refl
-full-read shape v Dir s e = refl
-full-read shape v Other s e = refl
+full-read shape v register s = each-read shape v s (λ looksUp answer r. answer ≡ StackFull → r ≡ s) (λ looksUp x e. refl) (λ e. full-unchanged shape v s (ap refusalOf e)) register

@@ -97,7 +97,7 @@ module _ (shape : Shape) (v n source : ℕ) (there : RecordThere shape v n) (s :
       go false e = c
 
 module _ (shape : Shape) (v : ℕ) (s : List ℕ) (h : Served shape v s) (c : Canonical shape s) where
-  given-canonical : (e : Entry) → Givable shape v e s → e .priority .0 < 256 → Canonical shape (given shape v e s)
+  pub given-canonical : (e : Entry) → Givable shape v e s → e .priority .0 < 256 → Canonical shape (given shape v e s)
   unfolding given
   given-canonical e g byte =
       let n : ℕ = e .intid .0 in

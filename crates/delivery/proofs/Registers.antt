@@ -12,12 +12,38 @@ use Rattle.state.specs.declared.layout.Shape.{Shape}
 use Rattle.state.specs.declared.layout.InterfaceValue.{InterfaceValue}
 use Rattle.state.specs.declared.layout.InterfaceValue.the-variants.{Control, PriorityMask, BinaryPoint}
 use Rattle.state.specs.Layout.{Interface}
-use Rattle.state.specs.Words.{withInterface, enabledAt}
+use Rattle.state.specs.Words.{interfaceAt, withInterface, enabledAt}
 use Rattle.state.proofs.Canonical.{OffStack}
-use Rattle.acknowledge.specs.Acknowledge.{offer, taken, acknowledged}
+use Rattle.distributor.specs.Values.{iidr}
+use Rattle.select.specs.Select.{highestPending}
+use Rattle.service.specs.Service.{running}
+use Rattle.acknowledge.specs.declared.Read.{Read}
+use Rattle.acknowledge.specs.declared.Read.the-variants.{Value}
+use Rattle.acknowledge.specs.Acknowledge.{offer, taken, acknowledge, acknowledged}
 use Rattle.end.specs.End.{decodedEoi, deactivated, ended, eoiState, dirState}
-use Rattle.cpu_interface.specs.CpuInterface.{afterRead, writeRegister, readLooksUp, writeLooksUp, decodes}
+use Rattle.cpu_interface.specs.CpuInterface.{readRegister, afterRead, writeRegister, readLooksUp, writeLooksUp, decodes}
 use Rattle.cpu_interface.proofs.Decoding.{valid-decodes}
+
+-- a read acknowledges, or gives a value and changes nothing; P is of whether it looks up its vCPU, of what it answers and of the state after
+module _ (shape : Shape) (v : ℕ) (s : List ℕ) (P : Bool → Read → List ℕ → Type 0)
+    (gives : (looksUp : Bool) (x : ℕ) → P looksUp (Value x) s)
+    (acknowledges : P (enabledAt shape s) (acknowledge shape v s) (acknowledged shape v s)) where
+  pub each-read : (register : CpuInterfaceRegister) → P (readLooksUp register (enabledAt shape s)) (readRegister shape v register s) (afterRead shape v register s)
+  each-read Ctlr = gives true (interfaceAt shape v Control s)
+  each-read Pmr = gives true (interfaceAt shape v PriorityMask s)
+  each-read Bpr = gives true (interfaceAt shape v BinaryPoint s)
+  each-read Iar = acknowledges
+  each-read Eoir = gives false 0
+  each-read Rpr = gives true (running shape v s)
+  each-read Hppir = gives true (highestPending shape v s)
+  each-read Abpr = gives true (interfaceAt shape v BinaryPoint s)
+  each-read Aiar = acknowledges
+  each-read Aeoir = gives false 0
+  each-read Ahppir = gives true (highestPending shape v s)
+  each-read Apr = gives false 0
+  each-read Iidr = gives false iidr
+  each-read Dir = gives false 0
+  each-read Other = gives false 0
 
 module _ (shape : Shape) (v : ℕ) (s : List ℕ) (P : List ℕ → Type 0) (same : P s) where
   module _ (give : v < shape .count → P (acknowledged shape v s)) where
@@ -31,21 +57,7 @@ module _ (shape : Shape) (v : ℕ) (s : List ℕ) (P : List ℕ → Type 0) (sam
         go false e = simp e same
 
     pub read-cases : (register : CpuInterfaceRegister) → (readLooksUp register (enabledAt shape s) ≡ true → v < shape .count) → P (afterRead shape v register s)
-    read-cases Ctlr looked = same
-    read-cases Pmr looked = same
-    read-cases Bpr looked = same
-    read-cases Iar looked = acknowledge-case looked
-    read-cases Eoir looked = same
-    read-cases Rpr looked = same
-    read-cases Hppir looked = same
-    read-cases Abpr looked = same
-    read-cases Aiar looked = acknowledge-case looked
-    read-cases Aeoir looked = same
-    read-cases Ahppir looked = same
-    read-cases Apr looked = same
-    read-cases Iidr looked = same
-    read-cases Dir looked = same
-    read-cases Other looked = same
+    read-cases = each-read shape v s (λ looksUp answer r. (looksUp ≡ true → v < shape .count) → P r) (λ looksUp x looked. same) acknowledge-case
 
   module _ (value : ℕ)
       (keep : v < shape .count → (k : InterfaceValue) → OffStack (Interface v k) → P (withInterface shape v k value s))

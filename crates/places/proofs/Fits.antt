@@ -9,6 +9,7 @@ use lib.Dec.{ltb}
 use borrow.Author.Tests.{lt-ltb}
 use Rattle.register.specs.declared.frame.AccessWidth.{AccessWidth}
 use Rattle.register.specs.declared.frame.AccessWidth.the-variants.{Byte, Word, Dword, Qword}
+use Rattle.register.specs.declared.frame.Refusal.{Refusal}
 use Rattle.register.specs.declared.ranges.BitRegister.{BitRegister}
 use Rattle.register.specs.declared.ranges.BitRegister.the-variants.{Igroupr, Isenabler, Icenabler, Ispendr, Icpendr, Isactiver, Icactiver, Icfgr}
 use Rattle.register.specs.declared.ranges.ByteRegister.{ByteRegister}
@@ -19,7 +20,7 @@ use Rattle.register.specs.declared.distributor.Place.{Place}
 use Rattle.register.specs.declared.distributor.DistributorAccess.{DistributorAccess}
 use Rattle.register.specs.declared.distributor.DistributorAccess.the-variants.{Refused, PrivateWidth, At}
 use Rattle.register.specs.Distributor.{bitNumbersPerByte, isPriority, isBanked, isPrivate, placeAt, wordStart, unfit, single, bitWord, byteArray, within, locateInFrame, locateDistributor}
-use Rattle.register.specs.Frame.{bytes, isDword, isQword, inFrame}
+use Rattle.register.specs.Frame.{refusalNumber, bytes, isDword, isQword, inFrame}
 use Rattle.register.specs.Ranges.{ranges, classAt, rangeNumbered, rangeOf}
 use Rattle.register.proofs.Reach.{reach, numbers, reach-bound}
 use Rattle.state.specs.declared.layout.Shape.{Shape}
@@ -42,7 +43,7 @@ record Placement (w : AccessWidth) (p : Place) : Type 0 where
   width-fits : WidthFits (p .class) w
 
 abbrev Fitted : AccessWidth → DistributorAccess → Type 0
-Fitted w (Refused r) = Unit
+Fitted w (Refused r) = refusalNumber r ≤ 2
 Fitted w PrivateWidth = Unit
 Fitted w (At p) = Placement w p
 
@@ -55,7 +56,7 @@ chosen false p q = q refl
 
 unfitted : (p : Place) (w : AccessWidth) → Fitting w (unfit p)
 unfolding unfit
-unfitted p w = chosen (p .private) (λ e. record { fitted = tt }) (λ e. record { fitted = tt })
+unfitted p w = chosen (p .private) (λ e. record { fitted = tt }) (λ e. record { fitted = omega arith })
 
 placed : (o : ℕ) (w : AccessWidth) (c : Class) → classAt o ≡ c → WidthFits c w → Placement w (placeAt o)
 unfolding placeAt isPrivate
@@ -65,7 +66,7 @@ alone : (c : Class) (o : ℕ) (w : AccessWidth) → isBanked c ≡ false → Wid
 unfolding single
 alone c o w e f =
     chosen (wordStart o)
-    (λ s. chosen (isDword w) (λ d. record { fitted = record { private-is = ap (λ (b : Bool). b && true) (sym e); width-fits = f } }) (λ d. record { fitted = tt }))
+    (λ s. chosen (isDword w) (λ d. record { fitted = record { private-is = ap (λ (b : Bool). b && true) (sym e); width-fits = f } }) (λ d. record { fitted = omega arith }))
     (λ s. record { fitted = record { private-is = refl; width-fits = tt } })
 
 by-class : (o : ℕ) (w : AccessWidth) (c : Class) → classAt o ≡ c → Fitting w (within c o w)
@@ -75,13 +76,17 @@ by-class o w Typer e = alone Typer o w refl tt
 by-class o w Iidr e = alone Iidr o w refl tt
 by-class o w Sgir e = alone Sgir o w refl tt
 by-class o w (Bits register) e =
-    chosen (wordStart o) (λ s. chosen (isDword w) (λ d. record { fitted = placed o w (Bits register) e d }) (λ d. unfitted (placeAt o) w)) (λ s. record { fitted = tt })
+    chosen (wordStart o) (λ s. chosen (isDword w) (λ d. record { fitted = placed o w (Bits register) e d }) (λ d. unfitted (placeAt o) w)) (λ s. record { fitted = omega arith })
 by-class o w (Bytes register) e = chosen (isQword w) (λ q. unfitted (placeAt o) w) (λ q. record { fitted = placed o w (Bytes register) e q })
 by-class o w Other e = record { fitted = record { private-is = refl; width-fits = tt } }
 
 fitting : (o : ℕ) (w : AccessWidth) → Fitting w (locateDistributor o w)
 unfolding locateDistributor locateInFrame
-fitting o w = chosen (inFrame 0x1000 o w) (λ e. by-class o w (classAt o) refl) (λ e. record { fitted = tt })
+fitting o w = chosen (inFrame 0x1000 o w) (λ e. by-class o w (classAt o) refl) (λ e. record { fitted = omega arith })
+
+-- what the map refuses it refuses by 1 or 2
+pub refused-access : (o : ℕ) (w : AccessWidth) (r : Refusal) → locateDistributor o w ≡ Refused r → refusalNumber r ≤ 2
+refused-access o w r p = subst (Fitting w) p (fitting o w) .fitted
 
 dword-bytes : (w : AccessWidth) → isDword w ≡ true → bytes w ≡ 4
 dword-bytes Byte d = absurd (true≢false (sym d))

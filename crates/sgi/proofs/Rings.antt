@@ -68,23 +68,28 @@ module _ (shape : Shape) (source n : ℕ) (target : SgiTarget) (s : List ℕ) (h
   unfolding sendSgi
   sgi-room = steps-room shape (λ u. Of u n) (sentTo shape target source n) (shape .count) s sent h
 
+-- sources merged are a byte
+pub merged-fits : (on : Bool) (x byte : ℕ) → x < 256 → byte < 256 → mergedSources on x byte < 256
+merged-fits true x byte a b = or-lt 8 x byte a b
+merged-fits false x byte a b = lt-of-le-of-lt (and-le-l x (255 - byte)) a
+
 -- a source set and then its record: both are as written
 module _ (shape : Shape) (v n : ℕ) (s : List ℕ) (h : Room shape s) (e : Exists shape (Sources v n)) where
   module _ (x : ℕ) (b : x < 256) (f : InterruptRecord → InterruptRecord) (keeps : (r : InterruptRecord) → InRange r → InRange (f r)) where
-    both-sources : sourcesAt shape v n (changed shape v n f (withSources shape v n x s)) ≡ x
+    pub both-sources : sourcesAt shape v n (changed shape v n f (withSources shape v n x s)) ≡ x
     both-sources =
         let after = withSources shape v n x s in
         ap (λ (w : ℕ). w % 256) (put-other shape after (Sources v n) (recordSlot v n) (wordOf (f (recordAt shape v n after))) e (sgi-exists shape v n (h .limits) e) (λ p. record-no-sources v n v n (sym p)))
         ∙ sources-same shape s v n x h e b
 
-    both-record : recordAt shape v n (changed shape v n f (withSources shape v n x s)) ≡ f (recordAt shape v n s)
+    pub both-record : recordAt shape v n (changed shape v n f (withSources shape v n x s)) ≡ f (recordAt shape v n s)
     both-record =
         let after = withSources shape v n x s in
         let r = recordAt shape v n after in
         record-same shape after v n (f r) (put-room shape s (Sources v n) x h) (sgi-exists shape v n (h .limits) e) (keeps r (decoded-in-range (wordAt shape (recordSlot v n) after)))
         ∙ ap (λ (w : ℕ). f (recordOf w)) (put-other shape s (recordSlot v n) (Sources v n) x (sgi-exists shape v n (h .limits) e) e (record-no-sources v n v n))
 
-  pended : (p : Bool) (r : InterruptRecord) → InRange r → InRange (setPending r p)
+  pub pended : (p : Bool) (r : InterruptRecord) → InRange r → InRange (setPending r p)
   unfolding setPending
   pended p r i = record { priority-byte = i .priority-byte; mask-byte = i .mask-byte; owner-byte = i .owner-byte }
 
@@ -103,16 +108,15 @@ module _ (shape : Shape) (v n : ℕ) (s : List ℕ) (h : Room shape s) (e : Exis
 
   -- a byte of CPENDSGIR or SPENDSGIR with a 1 bit: the sources are merged, and the SGI is pending exactly if one is left
   module _ (on : Bool) (byte : ℕ) (b : byte < 256) (some : byte ≡ 0 → ⊥) where
-    merged-below : (q : Bool) → mergedSources q (sourcesAt shape v n s) byte < 256
-    merged-below true = or-lt 8 (sourcesAt shape v n s) byte (omega arith) b
-    merged-below false = lt-of-le-of-lt (and-le-l (sourcesAt shape v n s) (255 - byte)) (omega arith)
+    merged-below : mergedSources on (sourcesAt shape v n s) byte < 256
+    merged-below = merged-fits on (sourcesAt shape v n s) byte (omega arith) b
 
     pub written-sources : sourcesAt shape v n (writeSources shape v n on byte s) ≡ mergedSources on (sourcesAt shape v n s) byte
     unfolding writeSources
     written-sources =
         let x = mergedSources on (sourcesAt shape v n s) byte in
         simp (ne-eqb byte 0 some)
-        (both-sources x (merged-below on) (λ r. setPending r (not (eqb (sourcesAt shape v n (withSources shape v n x s)) 0))) (pended (not (eqb (sourcesAt shape v n (withSources shape v n x s)) 0))))
+        (both-sources x merged-below (λ r. setPending r (not (eqb (sourcesAt shape v n (withSources shape v n x s)) 0))) (pended (not (eqb (sourcesAt shape v n (withSources shape v n x s)) 0))))
 
     pub written-pends : recordAt shape v n (writeSources shape v n on byte s)
         ≡ setPending (recordAt shape v n s) (not (eqb (mergedSources on (sourcesAt shape v n s) byte) 0))
@@ -120,5 +124,5 @@ module _ (shape : Shape) (v n : ℕ) (s : List ℕ) (h : Room shape s) (e : Exis
     written-pends =
         let x = mergedSources on (sourcesAt shape v n s) byte in
         simp (ne-eqb byte 0 some)
-        (both-record x (merged-below on) (λ r. setPending r (not (eqb (sourcesAt shape v n (withSources shape v n x s)) 0))) (pended (not (eqb (sourcesAt shape v n (withSources shape v n x s)) 0)))
-        ∙ ap (λ (q : ℕ). setPending (recordAt shape v n s) (not (eqb q 0))) (sources-same shape s v n x h e (merged-below on)))
+        (both-record x merged-below (λ r. setPending r (not (eqb (sourcesAt shape v n (withSources shape v n x s)) 0))) (pended (not (eqb (sourcesAt shape v n (withSources shape v n x s)) 0)))
+        ∙ ap (λ (q : ℕ). setPending (recordAt shape v n s) (not (eqb q 0))) (sources-same shape s v n x h e merged-below))

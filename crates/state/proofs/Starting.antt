@@ -69,7 +69,7 @@ module _ (shape : Shape) (s : List ℕ) where
     depths = λ v b. rw (fresh-word (Interface v Depth) h b) (omega arith);
   }
 
-starting-in-range : (n : ℕ) → InRange (startingRecord (record { 0 = n }))
+pub starting-in-range : (n : ℕ) → InRange (startingRecord (record { 0 = n }))
 unfolding startingRecord newRecord
 starting-in-range n = record { priority-byte = omega arith; mask-byte = omega arith; owner-byte = tt }
 

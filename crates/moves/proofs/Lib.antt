@@ -1,0 +1,5 @@
+-- What each move leaves alone, and that each keeps a controller a controller.
+pub mod Controllers
+pub mod Parts
+pub mod Records
+pub mod Slots

@@ -1,0 +1,113 @@
+-- Which slots a move touches: every other slot stays, and so does the room. Assumes nothing.
+use mathlib.Core.Path.{_≡_, refl, sym, subst, _∙_}
+use mathlib.Core.Bool.{not}
+use mathlib.Core.List.{List}
+use mathlib.Core.Logic.{_⊎_, inl, inr}
+use Prim.Native.Nat.{ℕ, _≤_, _<_}
+use native.Mathlib.Omega.{arith}
+use lib.Dec.{eqb}
+use Rattle.interrupt.specs.Record.{setPending}
+use Rattle.word.specs.Word.{bitOf, wordOf}
+use Rattle.state.specs.declared.layout.Shape.{Shape}
+use Rattle.state.specs.declared.layout.InterfaceValue.{InterfaceValue}
+use Rattle.state.specs.declared.layout.InterfaceValue.the-variants.{Control, PriorityMask, BinaryPoint, Depth}
+use Rattle.state.specs.declared.words.Entry.{Entry}
+use Rattle.state.specs.Layout.{Slot, Count, Limit, DistributorControl, Interface, Sources, Private, Spi, Stack, Exists, Room}
+use Rattle.state.specs.Words.{wordAt, kept, recordSlot, recordAt, sourcesAt, withSources}
+use Rattle.state.proofs.Accessors.{put-room, put-other, record-exists}
+use Rattle.state.proofs.Numbers.{Of}
+use Rattle.state.proofs.SlotKinds.{kindOf, record-kind}
+use Rattle.sgi.specs.Sgi.{mergedSources}
+use Rattle.sgi.proofs.Rings.{sgi-exists}
+use Rattle.service.specs.Service.{depthAt, Served}
+use Rattle.service.proofs.Stacks.{popped-room, popped-others}
+use Rattle.acknowledge.specs.Acknowledge.{Givable}
+use Rattle.acknowledge.proofs.Offers.{offer-below}
+use Rattle.delivery.proofs.Given.{given-room, given-others}
+use Rattle.lawful.specs.Lawful.{Orderly, Lawful}
+use Rattle.lawful.proofs.Depths.{at-most-255, offer-room}
+use Rattle.moves.specs.Moves.{Move, Changed, Sourced, Kept, Switched, Given, Popped, becomes, moved, Giving, Open}
+
+-- the slots of a vCPU's stack
+abbrev pub StackOf : ℕ → Slot → Type 0
+StackOf v Count = ⊥
+StackOf v Limit = ⊥
+StackOf v DistributorControl = ⊥
+StackOf v (Interface u Control) = ⊥
+StackOf v (Interface u PriorityMask) = ⊥
+StackOf v (Interface u BinaryPoint) = ⊥
+StackOf v (Interface u Depth) = u ≡ v
+StackOf v (Sources u n) = ⊥
+StackOf v (Private u n) = ⊥
+StackOf v (Spi n) = ⊥
+StackOf v (Stack u i) = u ≡ v
+
+abbrev pub Touches : Move → Slot → Type 0
+Touches (Changed v n c) t = t ≡ recordSlot v n
+Touches (Sourced v n on byte) t = Of v n t
+Touches (Kept v k x) t = t ≡ Interface v k
+Touches (Switched on) t = t ≡ DistributorControl
+Touches (Given v e) t = Of v (e .intid .0) t ⊎ StackOf v t
+Touches (Popped v) t = StackOf v t
+
+module _ (shape : Shape) (s : List ℕ) (h : Lawful shape s) where
+  pub served : (v : ℕ) → v < shape .count → Served shape v s
+  served v exists = record { state = h .in-range .state; exists = exists; deep = at-most-255 shape v s (h .orderly) exists }
+
+  pub givable : (v : ℕ) (e : Entry) → Giving shape v e s → Givable shape v e s
+  givable v e o = record {
+    served = served v (o .exists);
+    room = offer-room shape v s (h .orderly) (o .exists) e (o .offered);
+    numbered = offer-below shape v s e (o .offered);
+  }
+
+  pub move-room : (m : Move) → Open shape m s → Room shape (moved shape m s)
+  move-room (Changed v n c) o = put-room shape s (recordSlot v n) (wordOf (becomes c (recordAt shape v n s))) (h .in-range .state)
+  move-room (Sourced v n on byte) o =
+      let x = mergedSources on (sourcesAt shape v n s) byte in
+      let after = withSources shape v n x s in
+      put-room shape after (recordSlot v n) (wordOf (setPending (recordAt shape v n after) (not (eqb x 0)))) (put-room shape s (Sources v n) x (h .in-range .state))
+  move-room (Kept v k x) o = put-room shape s (Interface v k) (kept k x) (h .in-range .state)
+  move-room (Switched on) o = put-room shape s DistributorControl (bitOf on) (h .in-range .state)
+  move-room (Given v e) o = given-room shape v e s (givable v e o)
+  move-room (Popped v) o = popped-room shape v s (served v (o .exists)) (o .some)
+
+  pub move-others : (m : Move) → Open shape m s → (t : Slot) → Exists shape t → (Touches m t → ⊥) → wordAt shape t (moved shape m s) ≡ wordAt shape t s
+  move-others (Changed v n c) o t x away = put-other shape s t (recordSlot v n) (wordOf (becomes c (recordAt shape v n s))) x (record-exists shape v n (o .there)) away
+  move-others (Sourced v n on byte) o t x away =
+      let y = mergedSources on (sourcesAt shape v n s) byte in
+      let after = withSources shape v n y s in
+      let slot : Exists shape (Sources v n) = (o .exists, o .sgi) in
+      put-other shape after t (recordSlot v n) (wordOf (setPending (recordAt shape v n after) (not (eqb y 0)))) x (sgi-exists shape v n (h .in-range .state .limits) slot) (λ p. away (inl p))
+      ∙ put-other shape s t (Sources v n) y x slot (λ p. away (inr p))
+  move-others (Kept v k y) o t x away = put-other shape s t (Interface v k) (kept k y) x (o .exists) away
+  move-others (Switched on) o t x away = put-other shape s t DistributorControl (bitOf on) x tt away
+  move-others (Given v e) o t x away =
+      given-others shape v e s (givable v e o) t x (λ p. away (inl (inl p))) (λ p. away (inl (inr p)))
+      (λ p. away (inr (subst (StackOf v) (sym p) refl))) (λ p. away (inr (subst (StackOf v) (sym p) refl)))
+  move-others (Popped v) o t x away =
+      popped-others shape v s (served v (o .exists)) (o .some) t x (λ p. away (subst (StackOf v) (sym p) refl)) (λ p. away (subst (StackOf v) (sym p) refl))
+
+-- no move touches the stored count and limit, which are of the first two kinds
+of-kind : (v n : ℕ) (t : Slot) → Of v n t → 2 ≤ kindOf t
+of-kind v n t (inl p) = rw (p, record-kind v n) (omega arith)
+of-kind v n t (inr p) = rw p (omega arith)
+
+stack-kind : (v : ℕ) (t : Slot) → StackOf v t → 2 ≤ kindOf t
+stack-kind v Count p = absurd p
+stack-kind v Limit p = absurd p
+stack-kind v DistributorControl p = absurd p
+stack-kind v (Interface u k) p = omega arith
+stack-kind v (Sources u n) p = omega arith
+stack-kind v (Private u n) p = omega arith
+stack-kind v (Spi n) p = omega arith
+stack-kind v (Stack u i) p = omega arith
+
+pub touched-kind : (m : Move) (t : Slot) → Touches m t → 2 ≤ kindOf t
+touched-kind (Changed v n c) t p = of-kind v n t (inl p)
+touched-kind (Sourced v n on byte) t p = of-kind v n t p
+touched-kind (Kept v k x) t p = rw p (omega arith)
+touched-kind (Switched on) t p = rw p (omega arith)
+touched-kind (Given v e) t (inl p) = of-kind v (e .intid .0) t p
+touched-kind (Given v e) t (inr p) = stack-kind v t p
+touched-kind (Popped v) t p = stack-kind v t p
