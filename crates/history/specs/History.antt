@@ -1,6 +1,7 @@
 -- Calls one after another: document 01, "What the promises have to hold". A call is any public call with any arguments, refused or not, and
 -- acts as its promise says.
-use mathlib.Core.Bool.{Bool}
+use mathlib.Core.Bool.{Bool, true, false, not, _&&_}
+use mathlib.Core.Path.{_≡_}
 use mathlib.Core.List.{List, [], _∷_}
 use Prim.Native.Nat.{ℕ}
 use Rattle.register.specs.declared.frame.AccessWidth.{AccessWidth}
@@ -20,6 +21,16 @@ pub data Call : Type 0 where
   SetLevel : ℕ → ℕ → Bool → Call
   Pulse : ℕ → ℕ → Call
 
+abbrev pub isSetup : Call → Bool
+isSetup (Setup count limit) = true
+isSetup (ReadDistributor v offset width) = false
+isSetup (WriteDistributor v offset width value) = false
+isSetup (ReadCpuInterface v offset width) = false
+isSetup (WriteCpuInterface v offset width value) = false
+isSetup (SetLevel v n asserted) = false
+isSetup (Pulse v n) = false
+
+-- what it does
 abbrev pub called : Call → List ℕ → Outcome
 called (Setup count limit) s = setup count limit s
 called (ReadDistributor v offset width) s = readV2Distributor v offset width s
@@ -48,3 +59,22 @@ handed o = record { refusal = o .refusal; value = o .value; wake = o .wake; reti
 unfoldable pub answers : List Call → List ℕ → List Handed
 answers [] s = []
 answers (c ∷ cs) s = handed (called c s) ∷ answers cs (called c s .state)
+
+-- a history without another setup
+abbrev pub noSetup : List Call → Bool
+noSetup [] = true
+noSetup (c ∷ cs) = not (isSetup c) && noSetup cs
+
+-- setup accepts this count and limit in these words
+abbrev pub Accepted : ℕ → ℕ → List ℕ → Type 0
+Accepted count limit s = called (Setup count limit) s .refusal ≡ 0
+
+-- a refusal that is neither 6 nor 7
+pub record Ordinary (refusal : ℕ) : Type 0 where
+  pub not-6 : refusal ≡ 6 → ⊥
+  pub not-7 : refusal ≡ 7 → ⊥
+
+-- of each answer
+abbrev pub Each : (Handed → Type 0) → List Handed → Type 0
+Each P [] = Unit
+Each P (a ∷ rest) = P a × Each P rest

@@ -1,0 +1,166 @@
+-- Demand 3: "Take a fresh controller and any sequence of calls, refused ones included, each acting as demand 2 defines it." What is here
+-- is about the words that the calls leave, for every count and limit that setup accepts, whatever the lent words held before. Assumes nothing.
+use mathlib.Core.Path.{_≡_, refl, sym, subst}
+use mathlib.Core.Bool.{Bool, true, false, not, cond, false≢true}
+use mathlib.Core.List.{List, [], _∷_}
+use Prim.Native.Nat.{ℕ, _≤_, _<_}
+use native.Mathlib.Omega.{arith}
+use lib.Dec.{leb}
+use lib.ListN.{length, getD}
+use borrow.Author.Tests.{leb-true}
+use Rattle.register.specs.declared.frame.Refusal.the-variants.{ShortState}
+use Rattle.state.specs.declared.layout.Shape.{Shape}
+use Rattle.state.specs.declared.lent.Limited.{Limited}
+use Rattle.state.specs.declared.lent.Limited.the-variants.{Within, Outside}
+use Rattle.state.specs.Fresh.{fresh}
+use Rattle.state.specs.Layout.{size}
+use Rattle.state.specs.Lent.{limited, shaped}
+use Rattle.state.specs.Words.{enabledAt}
+use Rattle.state.proofs.Tests.{left-true, right-true}
+use Rattle.state.proofs.Validated.{limited-shape, limited-limits}
+use Rattle.service.specs.Service.{depthAt}
+use Rattle.acknowledge.specs.declared.Read.{Read}
+use Rattle.acknowledge.specs.declared.Read.the-variants.{Value, StackFull}
+use Rattle.acknowledge.specs.Acknowledge.{offer, answered, acknowledge, acknowledged, refusalOf}
+use Rattle.answer.specs.Answer.{Outcome, refused, gave}
+use Rattle.controller.specs.Start.{setupOf, setup}
+use Rattle.cpu_interface_frame.specs.CpuInterfaceFrame.{readAnswer}
+use Rattle.lawful.specs.Lawful.{Orderly, Controls, Controller}
+use Rattle.lawful.proofs.Depths.{at-most-255, never-full}
+use Rattle.lawful.proofs.Starting.{fresh-controls}
+use Rattle.moves.proofs.Controllers.{chain-controls}
+use Rattle.history.specs.History.{Call, Setup, isSetup, called, run, answers, noSetup, Accepted, Ordinary, Each}
+use Rattle.history.proofs.Calls.{call-chain}
+use Rattle.history.proofs.Each.{few, setup-or-other, each-call}
+
+-- setup: refused, with nothing changed, or a fresh state of that count and limit
+module _ (count limit : ℕ) (s : List ℕ) (P : Outcome → Type 0)
+    (refuses : (o : Outcome) → Ordinary (o .refusal) → (o .refusal ≡ 0 → ⊥) → o .state ≡ s → P o)
+    (starts : Controls (shaped count limit) (fresh (shaped count limit) s) → P (gave 0 (fresh (shaped count limit) s))) where
+  fits : (l : Limited) → limited count limit ≡ l → P (setupOf l s)
+  fits Outside p = refuses (setupOf Outside s) (few (omega arith)) (λ e. absurd (omega (arith, e))) refl
+  fits (Within shape) p = subst (λ (k : Shape). P (setupOf (Within k) s)) (sym same) (go (leb (size own) (length s)) refl)
+    where
+      own : Shape
+      own = shaped count limit
+
+      same : shape ≡ own
+      same = limited-shape count limit shape p
+
+      go : (b : Bool) → leb (size own) (length s) ≡ b → P (cond b (gave 0 (fresh own s)) (refused ShortState s))
+      go true e = starts (fresh-controls own s (record { limits = subst Rattle.state.specs.Layout.Limits same (limited-limits count limit shape p); room = leb-true (size own) (length s) e }))
+      go false e = refuses (refused ShortState s) (few (omega arith)) (λ q. absurd (omega (arith, q))) refl
+
+  setup-cases : P (called (Setup count limit) s)
+  unfolding setup
+  setup-cases = fits (limited count limit) refl
+
+-- "a fresh controller": what an accepted setup leaves, whatever the words held
+pub a-fresh-controller : (count limit : ℕ) (s : List ℕ) → Accepted count limit s → Controls (shaped count limit) (called (Setup count limit) s .state)
+a-fresh-controller count limit s =
+    setup-cases count limit s (λ o. o .refusal ≡ 0 → Controls (shaped count limit) (o .state)) (λ o ordinary no same e. absurd (no e)) (λ controls e. controls)
+
+-- every call keeps a controller, of its count and limit if it is no setup
+pub every-other-call : (shape : Shape) (c : Call) → isSetup c ≡ false → (s : List ℕ) → Controls shape s → Controls shape (called c s .state)
+every-other-call shape c e s h = chain-controls (call-chain shape s h c e) h
+
+pub every-call : (c : Call) (s : List ℕ) → Controller s → Controller (called c s .state)
+every-call c s h =
+    setup-or-other (λ d. Controller (called d s .state))
+    (λ count limit. setup-cases count limit s (λ o. Controller (o .state)) (λ o ordinary no same. subst Controller (sym same) h) (λ controls. record { shape = shaped count limit; controls = controls }))
+    (λ d e. record { shape = h .shape; controls = every-other-call (h .shape) d e s (h .controls) })
+    c
+
+-- so every history does
+pub every-history : (cs : List Call) (s : List ℕ) → Controller s → Controller (run cs s)
+unfolding run
+every-history [] s h = h
+every-history (c ∷ cs) s h = every-history cs (called c s .state) (every-call c s h)
+
+pub same-controller : (shape : Shape) (cs : List Call) → noSetup cs ≡ true → (s : List ℕ) → Controls shape s → Controls shape (run cs s)
+unfolding run
+same-controller shape [] e s h = h
+same-controller shape (c ∷ cs) e s h =
+    same-controller shape cs (right-true (not (isSetup c)) (noSetup cs) e) (called c s .state) (every-other-call shape c (not-false (isSetup c) (left-true (not (isSetup c)) (noSetup cs) e)) s h)
+  where
+    not-false : (b : Bool) → not b ≡ true → b ≡ false
+    not-false true p = absurd (false≢true p)
+    not-false false p = refl
+
+-- no call to a controller is refused by 6, and no acknowledge by 7
+module _ (s : List ℕ) (h : Controller s) where
+  abbrev shape : Shape
+  shape = h .shape
+
+  -- while the Distributor is off there is nothing to hand out
+  finds-room : (v : ℕ) → (enabledAt shape s ≡ true → v < shape .count) → refusalOf (acknowledge shape v s) ≡ 0
+  unfolding offer answered
+  finds-room v looked = go (enabledAt shape s) refl
+    where
+      go : (b : Bool) → enabledAt shape s ≡ b → refusalOf (acknowledge shape v s) ≡ 0
+      go true e = never-full shape v s (h .controls .lawful .orderly) (looked e)
+      go false e = simp e
+
+  answered-ordinary : (a : Read) (r : List ℕ) → refusalOf a ≡ 0 → Ordinary (readAnswer a s r .refusal)
+  answered-ordinary (Value x) r e = few (omega arith)
+  answered-ordinary StackFull r e = absurd (omega (arith, e))
+
+  other-ordinary : (c : Call) → isSetup c ≡ false → Ordinary (called c s .refusal)
+  other-ordinary =
+      each-call shape s (h .controls) (λ c o. Ordinary (o .refusal))
+      (λ c r ordinary. ordinary)
+      (λ c x. few (omega arith))
+      (λ v offset width looked. answered-ordinary (acknowledge shape v s) (acknowledged shape v s) (finds-room v looked))
+      (λ v offset width value register looked. few (omega arith))
+      (λ v offset width value place p at. few (omega arith))
+      (λ v n asserted there past. few (omega arith))
+      (λ v n there past. few (omega arith))
+
+  pub call-ordinary : (c : Call) → Ordinary (called c s .refusal)
+  call-ordinary =
+      setup-or-other (λ c. Ordinary (called c s .refusal))
+      (λ count limit. setup-cases count limit s (λ o. Ordinary (o .refusal)) (λ o ordinary no same. ordinary) (λ controls. few (omega arith)))
+      other-ordinary
+
+-- Demand 3 itself. The count and limit of a history are those that its words store: a later setup may have changed them.
+module _ (count limit : ℕ) (words : List ℕ) (accepted : Accepted count limit words) (cs : List Call) where
+  -- the words after setup and the calls
+  abbrev pub after : List ℕ
+  after = run (Setup count limit ∷ cs) words
+
+  abbrev pub stored : Shape
+  stored = shaped (getD after 0 0) (getD after 1 0)
+
+  controller : Controller after
+  unfolding run
+  controller = every-history cs (called (Setup count limit) words .state) (record { shape = shaped count limit; controls = a-fresh-controller count limit words accepted })
+
+  pub always : Controls stored after
+  always = subst (λ (k : Shape). Controls k after) (controller .controls .lawful .in-range .stored) (controller .controls)
+
+  pub demand-three : Orderly stored after
+  demand-three = always .lawful .orderly
+
+  -- "So at most 255 are held ..
+  pub at-most-255-held : (v : ℕ) → v < stored .count → depthAt stored v after ≤ 255
+  at-most-255-held v exists = at-most-255 stored v after demand-three exists
+
+  -- .. and an acknowledge never lacks room": whichever call comes next
+  pub never-refused-by-7 : (c : Call) → called c after .refusal ≡ 7 → ⊥
+  never-refused-by-7 c = call-ordinary after controller c .not-7
+
+  pub never-refused-by-6 : (c : Call) → called c after .refusal ≡ 6 → ⊥
+  never-refused-by-6 c = call-ordinary after controller c .not-6
+
+-- the same of all the answers that a history hands out
+answers-ordinary : (cs : List Call) (s : List ℕ) → Controller s → Each (λ a. Ordinary (a .refusal)) (answers cs s)
+unfolding answers
+answers-ordinary [] s h = tt
+answers-ordinary (c ∷ cs) s h = (call-ordinary s h c, answers-ordinary cs (called c s .state) (every-call c s h))
+
+pub no-answer-is-6-or-7 : (count limit : ℕ) (words : List ℕ) → Accepted count limit words → (cs : List Call) → Each (λ a. Ordinary (a .refusal)) (answers (Setup count limit ∷ cs) words)
+unfolding answers
+no-answer-is-6-or-7 count limit words accepted cs = (
+  few (omega (arith, accepted)),
+  answers-ordinary cs (called (Setup count limit) words .state) (record { shape = shaped count limit; controls = a-fresh-controller count limit words accepted }),
+)

@@ -1,0 +1,171 @@
+-- Every call but setup, case by case: what it is refused by, what it answers where nothing changes, and the five ways in which it changes
+-- something. What holds in each case holds of every call. Assumes nothing.
+use mathlib.Core.Path.{_≡_, refl, subst}
+use mathlib.Core.Bool.{Bool, true, false, cond, _&&_, true≢false}
+use mathlib.Core.List.{List}
+use Prim.Native.Nat.{ℕ, _%_, _^_, _≤_, _<_}
+use native.Mathlib.Omega.{arith}
+use lib.Dec.{leb, ltb}
+use borrow.Author.Tests.{leb-true}
+use Rattle.register.specs.declared.frame.AccessWidth.{AccessWidth}
+use Rattle.register.specs.declared.distributor.Place.{Place}
+use Rattle.register.specs.declared.«cpu_interface».CpuInterfaceRegister.{CpuInterfaceRegister}
+use Rattle.register.specs.declared.distributor.DistributorAccess.{DistributorAccess}
+use Rattle.register.specs.declared.distributor.DistributorAccess.the-variants as distributor
+use Rattle.register.specs.declared.«cpu_interface».CpuInterfaceAccess.{CpuInterfaceAccess}
+use Rattle.register.specs.declared.«cpu_interface».CpuInterfaceAccess.the-variants as interface
+use Rattle.register.specs.declared.frame.Refusal.the-variants as refusal
+use Rattle.register.specs.Distributor.{locateDistributor}
+use Rattle.register.specs.CpuInterface.{locateCpuInterface, registerAt}
+use Rattle.state.specs.declared.layout.Shape.{Shape}
+use Rattle.state.specs.declared.lent.Lent.the-variants.{Sound}
+use Rattle.state.specs.Lent.{validated}
+use Rattle.state.specs.Words.{RecordThere, changed, enabledAt}
+use Rattle.state.proofs.Tests.{left-true}
+use Rattle.state.proofs.Validated.{held-validated}
+use Rattle.service.specs.Service as service
+use Rattle.service.proofs.Soundness.{validated-sound}
+use Rattle.acknowledge.specs.Acknowledge.{acknowledge, acknowledged}
+use Rattle.delivery.proofs.Registers.{each-read}
+use Rattle.cpu_interface.specs.CpuInterface as interface-looks
+use Rattle.places.specs.Places as places
+use Rattle.answer.specs.Answer.{Outcome, refused, gave, went, absent, lookedUp}
+use Rattle.answer.proofs.Present.{present}
+use Rattle.distributor_frame.specs.DistributorFrame as distributor-frame
+use Rattle.distributor_frame.specs.DistributorFrame.{readV2Distributor, writeV2Distributor}
+use Rattle.distributor_frame.proofs.Passed.{place-written}
+use Rattle.cpu_interface_frame.specs.CpuInterfaceFrame as interface-frame
+use Rattle.cpu_interface_frame.specs.CpuInterfaceFrame.{readV2CpuInterface, writeV2CpuInterface}
+use Rattle.input.specs.declared.Signal.{Signal}
+use Rattle.input.specs.declared.Signal.the-variants.{Level, Edge}
+use Rattle.input.specs.declared.InputNumber.{InputNumber}
+use Rattle.input.specs.declared.InputNumber.the-variants.{Device, Outside}
+use Rattle.input.specs.Input.{signalled, inputOf, inputAt, deviceInput}
+use Rattle.input.proofs.Passed.{input-there}
+use Rattle.lawful.specs.Lawful.{Controls}
+use Rattle.history.specs.History.{Ordinary, Call, Setup, ReadDistributor, WriteDistributor, ReadCpuInterface, WriteCpuInterface, SetLevel, Pulse, isSetup, called}
+use Rattle.register.specs.declared.frame.Refusal.{Refusal}
+use Rattle.register.specs.Frame.{refusalNumber, isDword, inFrame}
+use Rattle.state.specs.declared.lent.Limited.the-variants.{Outside}
+use Rattle.places.proofs.Fits.{refused-access}
+
+pub few : {x : ℕ} → x ≤ 5 → Ordinary x
+few b = record { not-6 = λ e. absurd (omega (arith, b, e)); not-7 = λ e. absurd (omega (arith, b, e)) }
+
+-- what the CPU interface's map refuses it refuses by 1 or 2
+abbrev Passes : CpuInterfaceAccess → Type 0
+Passes (interface.Refused r) = refusalNumber r ≤ 2
+Passes (interface.At register) = Unit
+
+interface-access : (offset : ℕ) (width : AccessWidth) → Passes (locateCpuInterface offset width)
+unfolding locateCpuInterface
+interface-access offset width = go (inFrame 0x2000 offset width) (isDword width)
+  where
+    go : (b c : Bool) → Passes (cond b (cond c (interface.At (registerAt offset)) (interface.Refused refusal.Width)) (interface.Refused refusal.Access))
+    go true true = tt
+    go true false = omega arith
+    go false c = omega arith
+
+-- an input's number is that of the call, and no SGI's
+abbrev IsInput : ℕ → InputNumber → Type 0
+IsInput n (Device k) = (k .0 ≡ n) × (16 ≤ n)
+IsInput n Outside = Unit
+
+input-is : (shape : Shape) (n : ℕ) → IsInput n (inputOf shape n)
+unfolding inputOf
+input-is shape n = go (leb 16 n && ltb n (shape .limit)) refl
+  where
+    go : (b : Bool) → (leb 16 n && ltb n (shape .limit)) ≡ b → IsInput n (cond b (Device (record { 0 = n })) Outside)
+    go true e = (refl, leb-true 16 n (left-true (leb 16 n) (ltb n (shape .limit)) e))
+    go false e = tt
+
+pub setup-or-other : (P : Call → Type 0) → ((count limit : ℕ) → P (Setup count limit)) → ((c : Call) → isSetup c ≡ false → P c) → (c : Call) → P c
+setup-or-other P setup other (Setup count limit) = setup count limit
+setup-or-other P setup other (ReadDistributor v offset width) = other (ReadDistributor v offset width) refl
+setup-or-other P setup other (WriteDistributor v offset width value) = other (WriteDistributor v offset width value) refl
+setup-or-other P setup other (ReadCpuInterface v offset width) = other (ReadCpuInterface v offset width) refl
+setup-or-other P setup other (WriteCpuInterface v offset width value) = other (WriteCpuInterface v offset width value) refl
+setup-or-other P setup other (SetLevel v n asserted) = other (SetLevel v n asserted) refl
+setup-or-other P setup other (Pulse v n) = other (Pulse v n) refl
+
+pub valid : (shape : Shape) (s : List ℕ) → Controls shape s → validated s ≡ Sound shape
+valid shape s h = held-validated s shape (h .lawful .in-range)
+
+module _ (shape : Shape) (s : List ℕ) (h : Controls shape s) (P : Call → Outcome → Type 0)
+    (refuses : (c : Call) (r : Refusal) → Ordinary (refusalNumber r) → P c (refused r s))
+    (reads : (c : Call) (x : ℕ) → P c (gave x s))
+    (acknowledges : (v offset : ℕ) (width : AccessWidth) → (enabledAt shape s ≡ true → v < shape .count)
+    → P (ReadCpuInterface v offset width) (interface-frame.readAnswer (acknowledge shape v s) s (acknowledged shape v s)))
+    (writes : (v offset : ℕ) (width : AccessWidth) (value : ℕ) (register : CpuInterfaceRegister) → (interface-looks.writeLooksUp register (value % 2 ^ 32) ≡ true → v < shape .count)
+    → P (WriteCpuInterface v offset width value)
+    (went shape (interface-looks.writeRetired shape v register (value % 2 ^ 32) s) s (interface-looks.writeRegister shape v register (value % 2 ^ 32) s)))
+    (places-write : (v offset : ℕ) (width : AccessWidth) (value : ℕ) (place : Place) → locateDistributor offset width ≡ distributor.At place
+    → places.PlaceWritten shape v place width (value % 2 ^ 32) s
+    → P (WriteDistributor v offset width value) (went shape 1023 s (places.writePlace shape v place width (value % 2 ^ 32) s)))
+    (levels : (v n : ℕ) (asserted : Bool) → RecordThere shape v n → 16 ≤ n → P (SetLevel v n asserted) (went shape 1023 s (changed shape v n (signalled (Level asserted)) s)))
+    (pulses : (v n : ℕ) → RecordThere shape v n → 16 ≤ n → P (Pulse v n) (went shape 1023 s (changed shape v n (signalled Edge) s))) where
+  sound : service.Sound shape s
+  sound = validated-sound shape s (valid shape s h)
+
+  -- what looks up its vCPU and does not find it is refused by 3
+  looked : (c : Call) (looksUp : Bool) (v : ℕ) (out : Outcome) → (absent looksUp shape v ≡ false → P c out) → P c (lookedUp looksUp shape v s out)
+  looked c looksUp v out f = go (absent looksUp shape v) refl
+    where
+      go : (b : Bool) → absent looksUp shape v ≡ b → P c (lookedUp looksUp shape v s out)
+      go true e = simp e (refuses c refusal.Vcpu (few (omega arith)))
+      go false e = simp e (f e)
+
+  private-width : (c : Call) (v : ℕ) → P c (distributor-frame.privateWidth shape v s)
+  private-width c v = looked c true v (refused refusal.Width s) (λ e. refuses c refusal.Width (few (omega arith)))
+
+  interface-read : (v offset : ℕ) (width : AccessWidth) (a : CpuInterfaceAccess) → Passes a → P (ReadCpuInterface v offset width) (interface-frame.readAccess shape v a s)
+  interface-read v offset width (interface.Refused r) p = refuses (ReadCpuInterface v offset width) r (few (omega (arith, p)))
+  interface-read v offset width (interface.At register) p =
+      each-read shape v s (λ looksUp answer r. P c (lookedUp looksUp shape v s (interface-frame.readAnswer answer s r)))
+      (λ looksUp x. looked c looksUp v (gave x s) (λ e. reads c x))
+      (looked c (enabledAt shape s) v (interface-frame.readAnswer (acknowledge shape v s) s (acknowledged shape v s)) (λ e. acknowledges v offset width (present (enabledAt shape s) shape v e)))
+      register
+    where
+      c : Call
+      c = ReadCpuInterface v offset width
+
+  interface-write : (v offset : ℕ) (width : AccessWidth) (value : ℕ) (a : CpuInterfaceAccess) → Passes a → P (WriteCpuInterface v offset width value) (interface-frame.writeAccess shape v a (value % 2 ^ 32) s)
+  interface-write v offset width value (interface.Refused r) p = refuses (WriteCpuInterface v offset width value) r (few (omega (arith, p)))
+  interface-write v offset width value (interface.At register) p =
+      let x : ℕ = value % 2 ^ 32 in
+      let looksUp : Bool = interface-looks.writeLooksUp register x in
+      looked (WriteCpuInterface v offset width value) looksUp v (went shape (interface-looks.writeRetired shape v register x s) s (interface-looks.writeRegister shape v register x s))
+      (λ e. writes v offset width value register (present looksUp shape v e))
+
+  distributor-read : (v offset : ℕ) (width : AccessWidth) (a : DistributorAccess) → locateDistributor offset width ≡ a → P (ReadDistributor v offset width) (distributor-frame.readAccess shape v a width s)
+  distributor-read v offset width (distributor.Refused r) p = refuses (ReadDistributor v offset width) r (few (omega (arith, refused-access offset width r p)))
+  distributor-read v offset width distributor.PrivateWidth p = private-width (ReadDistributor v offset width) v
+  distributor-read v offset width (distributor.At place) p =
+      let x : ℕ = places.readPlace shape v place width s in
+      looked (ReadDistributor v offset width) (places.readLooksUp (place .class) (place .private)) v (gave x s) (λ e. reads (ReadDistributor v offset width) x)
+
+  distributor-write : (v offset : ℕ) (width : AccessWidth) (value : ℕ) (a : DistributorAccess) → locateDistributor offset width ≡ a
+      → P (WriteDistributor v offset width value) (distributor-frame.writeAccess shape v a width (value % 2 ^ 32) s)
+  distributor-write v offset width value (distributor.Refused r) p = refuses (WriteDistributor v offset width value) r (few (omega (arith, refused-access offset width r p)))
+  distributor-write v offset width value distributor.PrivateWidth p = private-width (WriteDistributor v offset width value) v
+  distributor-write v offset width value (distributor.At place) p =
+      let x : ℕ = value % 2 ^ 32 in
+      looked (WriteDistributor v offset width value) (places.writeLooksUp (place .class) (place .private) x) v (went shape 1023 s (places.writePlace shape v place width x s))
+      (λ e. places-write v offset width value place p (place-written v sound (record { offset = offset; at = p }) e))
+
+  input : (c : Call) (v n : ℕ) (signal : Signal) → (RecordThere shape v n → 16 ≤ n → P c (went shape 1023 s (changed shape v n (signalled signal) s)))
+      → (a : InputNumber) → inputOf shape n ≡ a → IsInput n a → P c (inputAt shape v signal a s)
+  input c v n signal f Outside p is = refuses c refusal.Input (record { not-6 = λ e. absurd (omega (arith, e)); not-7 = λ e. absurd (omega (arith, e)) })
+  input c v n signal f (Device k) p is =
+      looked c (ltb (k .0) 32) v (went shape 1023 s (changed shape v (k .0) (signalled signal) s))
+      (λ e. rw (is .0) (f (subst (RecordThere shape v) (is .0) (input-there shape v n k p e)) (is .1)))
+
+  pub each-call : (c : Call) → isSetup c ≡ false → P c (called c s)
+  unfolding readV2Distributor writeV2Distributor readV2CpuInterface writeV2CpuInterface deviceInput
+  each-call (Setup count limit) e = absurd (true≢false e)
+  each-call (ReadDistributor v offset width) e = rw (valid shape s h) (distributor-read v offset width (locateDistributor offset width) refl)
+  each-call (WriteDistributor v offset width value) e = rw (valid shape s h) (distributor-write v offset width value (locateDistributor offset width) refl)
+  each-call (ReadCpuInterface v offset width) e = rw (valid shape s h) (interface-read v offset width (locateCpuInterface offset width) (interface-access offset width))
+  each-call (WriteCpuInterface v offset width value) e = rw (valid shape s h) (interface-write v offset width value (locateCpuInterface offset width) (interface-access offset width))
+  each-call (SetLevel v n asserted) e = rw (valid shape s h) (input (SetLevel v n asserted) v n (Level asserted) (levels v n asserted) (inputOf shape n) refl (input-is shape n))
+  each-call (Pulse v n) e = rw (valid shape s h) (input (Pulse v n) v n Edge (pulses v n) (inputOf shape n) refl (input-is shape n))
