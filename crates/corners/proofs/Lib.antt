@@ -1,2 +1,3 @@
--- The statement about the corner list.
+-- The statement about the corner list, and what makes a history cheap to compute.
+pub mod Started
 pub mod Computed

@@ -1,0 +1,117 @@
+-- Who keeps the promises is of none of the four kinds: for each kind a history, computed, that it does not answer so. Assumes nothing.
+use mathlib.Core.Path.{_≡_, refl, sym, ap, _∙_}
+use mathlib.Core.Bool.{Bool, true, _&&_, true≢false}
+use mathlib.Core.List.{List, [], _∷_}
+use mathlib.Core.Logic.{_⊎_, inl, inr}
+use Prim.Native.Nat.{ℕ}
+use native.Mathlib.Omega.{arith}
+use Rattle.register.specs.declared.frame.AccessWidth.the-variants.{Dword}
+use Rattle.state.specs.Lent.{shaped}
+use Rattle.state.proofs.Tests.{left-true, right-true}
+use Rattle.answer.specs.Answer.{Outcome, gave}
+use Rattle.history.specs.History.{Call, Setup, ReadDistributor, WriteDistributor, WriteCpuInterface, called}
+use Rattle.corners.specs.Corners.{zeros}
+use Rattle.corners.proofs.Started.{started, setup-started, computing}
+use Rattle.shut_out.specs.ShutOut.{Behaviour, admitted, Meets, ran, History, after, Frame, Distributor, CpuInterface, Access, read, write, Refuser, ReadsNothing, IgnoresWrites, acknowledge, given, OneShot}
+
+-- the calls of a row and then one more are such as the types admit
+abbrev allAdmitted : List Call → Call → List ℕ → Bool
+allAdmitted [] c s = admitted c s
+allAdmitted (d ∷ cs) c s = admitted d s && allAdmitted cs c (called d s .state)
+
+-- who keeps the promises answers that one as they say
+promised : (f : Behaviour) → Meets f → (cs : List Call) (c : Call) (s : List ℕ) → allAdmitted cs c s ≡ true → f c (ran f cs s) ≡ called c (ran called cs s)
+unfolding ran
+promised f m [] c s p = m c s p
+promised f m (d ∷ cs) c s p =
+    let rest : Bool = allAdmitted cs c (called d s .state) in
+    rw (m d s (left-true (admitted d s) rest p)) (promised f m cs c (called d s .state) (right-true (admitted d s) rest p))
+
+-- one vCPU and no SPI, in words that were 0 and are just enough
+abbrev words : List ℕ
+words = zeros 310
+
+abbrev history : List Call → History
+history cs = record { count = 1; limit = 32; lent = words; calls = cs }
+
+abbrev begun : List ℕ
+begun = started (shaped 1 32) words
+
+set-up : (f : Behaviour) → Meets f → f (Setup 1 32) words ≡ gave 0 begun
+unfolding zeros
+set-up f m = m (Setup 1 32) words refl ∙ setup-started 1 32 words refl refl
+
+from-setup : (f : Behaviour) → Meets f → (cs : List Call) (c : Call) → allAdmitted cs c begun ≡ true → f c (after f (history cs)) ≡ called c (ran called cs begun)
+unfolding ran
+from-setup f m cs c p = rw (set-up f m) (promised f m cs c begun p)
+
+typer : Call
+typer = ReadDistributor 0 0x004 Dword
+
+pub no-refuser : (f : Behaviour) → Meets f → Refuser f → ⊥
+unfolding ran typer zeros computing
+no-refuser f m k = k (history []) typer refl (ap (λ (o : Outcome). o .refusal) (from-setup f m [] typer refl))
+
+-- CTLR of either frame, which keeps a 1
+control : Access
+control = record { vcpu = 0; offset = 0; width = Dword }
+
+kept : (f : Behaviour) → Meets f → (frame : Frame) → f (read frame control) (after f (history (write frame control 1 ∷ []))) .value ≡ 1
+unfolding ran control zeros computing
+kept f m Distributor = ap (λ (o : Outcome). o .value) (from-setup f m (write Distributor control 1 ∷ []) (read Distributor control) refl)
+kept f m CpuInterface = ap (λ (o : Outcome). o .value) (from-setup f m (write CpuInterface control 1 ∷ []) (read CpuInterface control) refl)
+
+cleared : (f : Behaviour) → Meets f → (frame : Frame) → f (read frame control) (after f (history [])) .value ≡ 0
+unfolding ran control zeros computing
+cleared f m Distributor = ap (λ (o : Outcome). o .value) (from-setup f m [] (read Distributor control) refl)
+cleared f m CpuInterface = ap (λ (o : Outcome). o .value) (from-setup f m [] (read CpuInterface control) refl)
+
+neither : (x : ℕ) → x ≡ 1 → (x ≡ 0) ⊎ (x ≡ 1023) → ⊥
+neither x p (inl e) = omega (arith, p, e)
+neither x p (inr e) = omega (arith, p, e)
+
+pub no-constant-reader : (frame : Frame) (f : Behaviour) → Meets f → ReadsNothing frame f → ⊥
+no-constant-reader frame f m k = neither _ (kept f m frame) (k (history (write frame control 1 ∷ [])) control)
+
+pub no-deaf-controller : (frame : Frame) (f : Behaviour) → Meets f → IgnoresWrites frame f → ⊥
+unfolding ran
+no-deaf-controller frame f m k = differ (sym (kept f m frame) ∙ k (history []) control control 1 ∙ cleared f m frame)
+  where
+    differ : _≡_ {A = ℕ} 1 0 → ⊥
+    differ e = omega (arith, e)
+
+-- both CTLRs and PMR are written and SGI 5 is rung; it is given; it is ended and rung again; it is given again
+ring : Call
+ring = WriteDistributor 0 0xf00 Dword 0x02000005
+
+before : List Call
+before =
+    WriteDistributor 0 0x000 Dword 1
+    ∷ WriteCpuInterface 0 0x00 Dword 1
+    ∷ WriteCpuInterface 0 0x04 Dword 255
+    ∷ ring
+    ∷ []
+
+between : List Call
+between = WriteCpuInterface 0 0x10 Dword 5 ∷ ring ∷ []
+
+abbrev first : Outcome
+first = called (acknowledge 0) (ran called before begun)
+
+abbrev second : Outcome
+second = called (acknowledge 0) (ran called between (first .state))
+
+first-given : given first ≡ true
+unfolding ran ring before zeros computing
+first-given = refl
+
+second-given : given second ≡ true
+unfolding ran ring before between zeros computing
+second-given = refl
+
+pub no-one-shot : (f : Behaviour) → Meets f → OneShot f → ⊥
+unfolding ran ring before between zeros computing
+no-one-shot f m k =
+    let e : f (acknowledge 0) (after f (history before)) ≡ first = from-setup f m before (acknowledge 0) refl in
+    let d : f (acknowledge 0) (ran f between (first .state)) ≡ second = promised f m between (acknowledge 0) (first .state) refl in
+    true≢false (sym (ap given d ∙ second-given) ∙ (rw e at (k (history before) 0 between (ap given e ∙ first-given) refl)))

@@ -1,0 +1,114 @@
+-- What the promises of the public calls shut out: document 01, "What the promises have to hold": "Demand 2, whose calls demand 3 speaks of,
+-- shuts out a controller that refuses everything, one that reads 1023 or 0 everywhere, one that ignores writes, and one that acknowledges the
+-- first interrupt properly and answers 1023 ever after". Each kind is as wide as these words allow, so that the theorems shut out the most.
+use mathlib.Core.Path.{_≡_}
+use mathlib.Core.Bool.{Bool, true, false, not, _&&_, _||_}
+use mathlib.Core.List.{List, [], _∷_}
+use mathlib.Core.Logic.{_⊎_}
+use Prim.Native.Nat.{ℕ, _^_}
+use lib.Dec.{eqb, ltb}
+use Rattle.register.specs.declared.frame.AccessWidth.{AccessWidth}
+use Rattle.register.specs.declared.frame.AccessWidth.the-variants.{Dword}
+use Rattle.answer.specs.Answer.{Outcome}
+use Rattle.history.specs.History.{Call, Setup, ReadDistributor, WriteDistributor, ReadCpuInterface, WriteCpuInterface, SetLevel, Pulse, called}
+
+-- some controller: what it does with a call and lent words
+abbrev pub Behaviour : Type 0
+Behaviour = Call → List ℕ → Outcome
+
+-- a promise speaks of what the types of its call admit: numbers of 64 bits, words of 32
+abbrev pub numbers : Call → List ℕ
+numbers (Setup count limit) = count ∷ limit ∷ []
+numbers (ReadDistributor v offset width) = v ∷ offset ∷ []
+numbers (WriteDistributor v offset width value) = v ∷ offset ∷ value ∷ []
+numbers (ReadCpuInterface v offset width) = v ∷ offset ∷ []
+numbers (WriteCpuInterface v offset width value) = v ∷ offset ∷ value ∷ []
+numbers (SetLevel v n asserted) = v ∷ n ∷ []
+numbers (Pulse v n) = v ∷ n ∷ []
+
+abbrev pub allBelow : ℕ → List ℕ → Bool
+allBelow bound [] = true
+allBelow bound (x ∷ xs) = ltb x bound && allBelow bound xs
+
+abbrev pub admitted : Call → List ℕ → Bool
+admitted c s = allBelow (2 ^ 64) (numbers c) && allBelow (2 ^ 32) s
+
+-- it keeps the promises
+abbrev pub Meets : Behaviour → Type 0
+Meets f = (c : Call) (s : List ℕ) → admitted c s ≡ true → f c s ≡ called c s
+
+-- the words that it leaves, call after call
+unfoldable pub ran : Behaviour → List Call → List ℕ → List ℕ
+ran f [] s = s
+ran f (c ∷ cs) s = ran f cs (f c s .state)
+
+-- a history: a setup in lent words, and calls after it
+pub record History : Type 0 where
+  pub count : ℕ
+  pub limit : ℕ
+  pub lent : List ℕ
+  pub calls : List Call
+
+abbrev pub after : Behaviour → History → List ℕ
+after f h = ran f (Setup (h .count) (h .limit) ∷ h .calls) (h .lent)
+
+-- an access to either frame
+pub data Frame : Type 0 where
+  Distributor : Frame
+  CpuInterface : Frame
+
+pub record Access : Type 0 where
+  pub vcpu : ℕ
+  pub offset : ℕ
+  pub width : AccessWidth
+
+abbrev pub read : Frame → Access → Call
+read Distributor a = ReadDistributor (a .vcpu) (a .offset) (a .width)
+read CpuInterface a = ReadCpuInterface (a .vcpu) (a .offset) (a .width)
+
+abbrev pub write : Frame → Access → ℕ → Call
+write Distributor a value = WriteDistributor (a .vcpu) (a .offset) (a .width) value
+write CpuInterface a value = WriteCpuInterface (a .vcpu) (a .offset) (a .width) value
+
+abbrev pub isSetup : Call → Bool
+isSetup (Setup count limit) = true
+isSetup (ReadDistributor v offset width) = false
+isSetup (WriteDistributor v offset width value) = false
+isSetup (ReadCpuInterface v offset width) = false
+isSetup (WriteCpuInterface v offset width value) = false
+isSetup (SetLevel v n asserted) = false
+isSetup (Pulse v n) = false
+
+abbrev pub anySetup : List Call → Bool
+anySetup [] = false
+anySetup (c ∷ cs) = isSetup c || anySetup cs
+
+-- "refuses everything": it may accept setups
+abbrev pub Refuser : Behaviour → Type 0
+Refuser f = (h : History) (c : Call) → isSetup c ≡ false → f c (after f h) .refusal ≡ 0 → ⊥
+
+-- "reads 1023 or 0 everywhere": one frame is enough
+abbrev pub ReadsNothing : Frame → Behaviour → Type 0
+ReadsNothing frame f = (h : History) (a : Access) → let value : ℕ = f (read frame a) (after f h) .value in (value ≡ 0) ⊎ (value ≡ 1023)
+
+-- "ignores writes": in one frame a read has the same value after a write as without it, whatever becomes of the words
+abbrev pub IgnoresWrites : Frame → Behaviour → Type 0
+IgnoresWrites frame f =
+    (h : History) (a b : Access) (value : ℕ)
+    → f (read frame b) (f (write frame a value) (after f h) .state) .value
+    ≡ f (read frame b) (after f h) .value
+
+-- an acknowledge is a read of IAR, and gives an interrupt if it is not refused and is not 1023
+abbrev pub acknowledge : ℕ → Call
+acknowledge v = ReadCpuInterface v 0x0c Dword
+
+abbrev pub given : Outcome → Bool
+given o = eqb (o .refusal) 0 && not (eqb (o .value) 1023)
+
+-- "acknowledges the first interrupt properly and answers 1023 ever after": a vCPU that was given one is given none until a setup
+abbrev pub OneShot : Behaviour → Type 0
+OneShot f =
+    (h : History) (v : ℕ) (later : List Call)
+    → let first : Outcome = f (acknowledge v) (after f h) in given first ≡ true
+    → anySetup later ≡ false
+    → given (f (acknowledge v) (ran f later (first .state))) ≡ false

@@ -1,0 +1,1 @@
+// No code: the controllers that the promises shut out, as theorems about the definitions of the calls.
