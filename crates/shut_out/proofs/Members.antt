@@ -1,15 +1,15 @@
 -- There is a controller that keeps the promises, and each kind has members, so the theorems shut something out: the fourth has one that does
 -- give a first interrupt. Assumes nothing.
 use mathlib.Core.Path.{_≡_, refl, ap}
-use mathlib.Core.Bool.{true, false, true≢false}
+use mathlib.Core.Bool.{true, false≢true}
 use mathlib.Core.List.{List, [], _∷_}
 use mathlib.Core.Logic.{inl}
 use Prim.Native.Nat.{ℕ}
 use native.Mathlib.Omega.{arith}
 use Rattle.register.specs.declared.frame.Refusal.the-variants.{BrokenState}
 use Rattle.answer.specs.Answer.{Outcome, refused, gave}
-use Rattle.history.specs.History.{Call, Setup, ReadDistributor, WriteDistributor, ReadCpuInterface, WriteCpuInterface, SetLevel, Pulse, called}
-use Rattle.shut_out.specs.ShutOut.{Behaviour, Meets, ran, after, Frame, Access, read, write, anySetup, Refuser, ReadsNothing, IgnoresWrites, acknowledge, given, OneShot}
+use Rattle.history.specs.History.{Call, Setup, ReadDistributor, WriteDistributor, ReadCpuInterface, WriteCpuInterface, SetLevel, Pulse, called, noSetup}
+use Rattle.shut_out.specs.ShutOut.{Behaviour, Meets, ran, after, Frame, Access, read, write, Refuser, ReadsNothing, IgnoresWrites, acknowledge, given, OneShot}
 
 pub one-meets : Meets called
 one-meets c s p = refl
@@ -45,10 +45,10 @@ once (WriteCpuInterface v offset width value) s = gave 0 s
 once (SetLevel v n asserted) s = gave 0 s
 once (Pulse v n) s = gave 0 s
 
-stays-empty : (cs : List Call) → anySetup cs ≡ false → ran once cs [] ≡ []
+stays-empty : (cs : List Call) → noSetup cs ≡ true → ran once cs [] ≡ []
 unfolding ran
 stays-empty [] p = refl
-stays-empty (Setup count limit ∷ cs) p = absurd (true≢false p)
+stays-empty (Setup count limit ∷ cs) p = absurd (false≢true p)
 stays-empty (ReadDistributor v offset width ∷ cs) p = stays-empty cs p
 stays-empty (WriteDistributor v offset width value ∷ cs) p = stays-empty cs p
 stays-empty (ReadCpuInterface v offset width ∷ cs) p = stays-empty cs p

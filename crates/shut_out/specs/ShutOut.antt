@@ -2,7 +2,7 @@
 -- shuts out a controller that refuses everything, one that reads 1023 or 0 everywhere, one that ignores writes, and one that acknowledges the
 -- first interrupt properly and answers 1023 ever after". Each kind is as wide as these words allow, so that the theorems shut out the most.
 use mathlib.Core.Path.{_≡_}
-use mathlib.Core.Bool.{Bool, true, false, not, _&&_, _||_}
+use mathlib.Core.Bool.{Bool, true, false, not, _&&_}
 use mathlib.Core.List.{List, [], _∷_}
 use mathlib.Core.Logic.{_⊎_}
 use Prim.Native.Nat.{ℕ, _^_}
@@ -10,7 +10,7 @@ use lib.Dec.{eqb, ltb}
 use Rattle.register.specs.declared.frame.AccessWidth.{AccessWidth}
 use Rattle.register.specs.declared.frame.AccessWidth.the-variants.{Dword}
 use Rattle.answer.specs.Answer.{Outcome}
-use Rattle.history.specs.History.{Call, Setup, ReadDistributor, WriteDistributor, ReadCpuInterface, WriteCpuInterface, SetLevel, Pulse, called}
+use Rattle.history.specs.History.{Call, Setup, ReadDistributor, WriteDistributor, ReadCpuInterface, WriteCpuInterface, SetLevel, Pulse, isSetup, called, noSetup}
 
 -- some controller: what it does with a call and lent words
 abbrev pub Behaviour : Type 0
@@ -70,19 +70,6 @@ abbrev pub write : Frame → Access → ℕ → Call
 write Distributor a value = WriteDistributor (a .vcpu) (a .offset) (a .width) value
 write CpuInterface a value = WriteCpuInterface (a .vcpu) (a .offset) (a .width) value
 
-abbrev pub isSetup : Call → Bool
-isSetup (Setup count limit) = true
-isSetup (ReadDistributor v offset width) = false
-isSetup (WriteDistributor v offset width value) = false
-isSetup (ReadCpuInterface v offset width) = false
-isSetup (WriteCpuInterface v offset width value) = false
-isSetup (SetLevel v n asserted) = false
-isSetup (Pulse v n) = false
-
-abbrev pub anySetup : List Call → Bool
-anySetup [] = false
-anySetup (c ∷ cs) = isSetup c || anySetup cs
-
 -- "refuses everything": it may accept setups
 abbrev pub Refuser : Behaviour → Type 0
 Refuser f = (h : History) (c : Call) → isSetup c ≡ false → f c (after f h) .refusal ≡ 0 → ⊥
@@ -110,5 +97,5 @@ abbrev pub OneShot : Behaviour → Type 0
 OneShot f =
     (h : History) (v : ℕ) (later : List Call)
     → let first : Outcome = f (acknowledge v) (after f h) in given first ≡ true
-    → anySetup later ≡ false
+    → noSetup later ≡ true
     → given (f (acknowledge v) (ran f later (first .state))) ≡ false
