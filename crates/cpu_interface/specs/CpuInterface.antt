@@ -37,6 +37,24 @@ readRegister shape v Iidr s = Value iidr
 readRegister shape v Dir s = Value 0
 readRegister shape v Other s = Value 0
 
+-- "IAR .. AIAR .. act as these": the two registers whose read acknowledges
+abbrev pub acknowledging : CpuInterfaceRegister → Bool
+acknowledging Ctlr = false
+acknowledging Pmr = false
+acknowledging Bpr = false
+acknowledging Iar = true
+acknowledging Eoir = false
+acknowledging Rpr = false
+acknowledging Hppir = false
+acknowledging Abpr = false
+acknowledging Aiar = true
+acknowledging Aeoir = false
+acknowledging Ahppir = false
+acknowledging Apr = false
+acknowledging Iidr = false
+acknowledging Dir = false
+acknowledging Other = false
+
 -- only an acknowledge changes something
 abbrev pub afterRead : Shape → ℕ → CpuInterfaceRegister → List ℕ → List ℕ
 afterRead shape v Ctlr s = s

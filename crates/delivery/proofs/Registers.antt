@@ -21,29 +21,30 @@ use Rattle.acknowledge.specs.declared.Read.{Read}
 use Rattle.acknowledge.specs.declared.Read.the-variants.{Value}
 use Rattle.acknowledge.specs.Acknowledge.{offer, taken, acknowledge, acknowledged}
 use Rattle.end.specs.End.{decodedEoi, deactivated, ended, eoiState, dirState}
-use Rattle.cpu_interface.specs.CpuInterface.{readRegister, afterRead, writeRegister, readLooksUp, writeLooksUp, decodes}
+use Rattle.cpu_interface.specs.CpuInterface.{readRegister, acknowledging, afterRead, writeRegister, readLooksUp, writeLooksUp, decodes}
 use Rattle.cpu_interface.proofs.Decoding.{valid-decodes}
 
--- a read acknowledges, or gives a value and changes nothing; P is of whether it looks up its vCPU, of what it answers and of the state after
-module _ (shape : Shape) (v : ℕ) (s : List ℕ) (P : Bool → Read → List ℕ → Type 0)
-    (gives : (looksUp : Bool) (x : ℕ) → P looksUp (Value x) s)
-    (acknowledges : P (enabledAt shape s) (acknowledge shape v s) (acknowledged shape v s)) where
-  pub each-read : (register : CpuInterfaceRegister) → P (readLooksUp register (enabledAt shape s)) (readRegister shape v register s) (afterRead shape v register s)
-  each-read Ctlr = gives true (interfaceAt shape v Control s)
-  each-read Pmr = gives true (interfaceAt shape v PriorityMask s)
-  each-read Bpr = gives true (interfaceAt shape v BinaryPoint s)
-  each-read Iar = acknowledges
-  each-read Eoir = gives false 0
-  each-read Rpr = gives true (running shape v s)
-  each-read Hppir = gives true (highestPending shape v s)
-  each-read Abpr = gives true (interfaceAt shape v BinaryPoint s)
-  each-read Aiar = acknowledges
-  each-read Aeoir = gives false 0
-  each-read Ahppir = gives true (highestPending shape v s)
-  each-read Apr = gives false 0
-  each-read Iidr = gives false iidr
-  each-read Dir = gives false 0
-  each-read Other = gives false 0
+-- a read acknowledges, or gives a value and changes nothing; P is of the register, of whether its vCPU is looked up, of the answer and of the
+-- state after
+module _ (shape : Shape) (v : ℕ) (s : List ℕ) (P : CpuInterfaceRegister → Bool → Read → List ℕ → Type 0)
+    (gives : (register : CpuInterfaceRegister) (looksUp : Bool) (x : ℕ) → P register looksUp (Value x) s)
+    (acknowledges : (register : CpuInterfaceRegister) → acknowledging register ≡ true → P register (enabledAt shape s) (acknowledge shape v s) (acknowledged shape v s)) where
+  pub each-read : (register : CpuInterfaceRegister) → P register (readLooksUp register (enabledAt shape s)) (readRegister shape v register s) (afterRead shape v register s)
+  each-read Ctlr = gives Ctlr true (interfaceAt shape v Control s)
+  each-read Pmr = gives Pmr true (interfaceAt shape v PriorityMask s)
+  each-read Bpr = gives Bpr true (interfaceAt shape v BinaryPoint s)
+  each-read Iar = acknowledges Iar refl
+  each-read Eoir = gives Eoir false 0
+  each-read Rpr = gives Rpr true (running shape v s)
+  each-read Hppir = gives Hppir true (highestPending shape v s)
+  each-read Abpr = gives Abpr true (interfaceAt shape v BinaryPoint s)
+  each-read Aiar = acknowledges Aiar refl
+  each-read Aeoir = gives Aeoir false 0
+  each-read Ahppir = gives Ahppir true (highestPending shape v s)
+  each-read Apr = gives Apr false 0
+  each-read Iidr = gives Iidr false iidr
+  each-read Dir = gives Dir false 0
+  each-read Other = gives Other false 0
 
 module _ (shape : Shape) (v : ℕ) (s : List ℕ) (P : List ℕ → Type 0) (same : P s) where
   module _ (give : v < shape .count → P (acknowledged shape v s)) where
@@ -57,7 +58,7 @@ module _ (shape : Shape) (v : ℕ) (s : List ℕ) (P : List ℕ → Type 0) (sam
         go false e = simp e same
 
     pub read-cases : (register : CpuInterfaceRegister) → (readLooksUp register (enabledAt shape s) ≡ true → v < shape .count) → P (afterRead shape v register s)
-    read-cases = each-read shape v s (λ looksUp answer r. (looksUp ≡ true → v < shape .count) → P r) (λ looksUp x looked. same) acknowledge-case
+    read-cases = each-read shape v s (λ register looksUp answer r. (looksUp ≡ true → v < shape .count) → P r) (λ register looksUp x looked. same) (λ register e. acknowledge-case)
 
   module _ (value : ℕ)
       (keep : v < shape .count → (k : InterfaceValue) → OffStack (Interface v k) → P (withInterface shape v k value s))

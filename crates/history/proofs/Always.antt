@@ -110,7 +110,7 @@ module _ (s : List ℕ) (h : Controller s) where
       each-call shape s (h .controls) (λ c o. Ordinary (o .refusal))
       (λ c r ordinary. ordinary)
       (λ c x. few (omega arith))
-      (λ v offset width looked. answered-ordinary (acknowledge shape v s) (acknowledged shape v s) (finds-room v looked))
+      (λ v offset width register at is looked. answered-ordinary (acknowledge shape v s) (acknowledged shape v s) (finds-room v looked))
       (λ v offset width value register looked. few (omega arith))
       (λ v offset width value place p at. few (omega arith))
       (λ v n asserted there past. few (omega arith))

@@ -97,7 +97,7 @@ module _ (shape : Shape) (s : List ℕ) (h : Controls shape s) where
       each-call shape s h (λ c o. Chain shape (Made shape c) s (o .state))
       (λ c r x. none)
       (λ c x. none)
-      (λ v offset width looked. answer-chain (acknowledge shape v s) (acknowledged-chain v looked))
+      (λ v offset width register at is looked. answer-chain (acknowledge shape v s) (acknowledged-chain v looked))
       (λ v offset width value register looked. write-chain v (value % 2 ^ 32) register looked)
       (λ v offset width value place p at. distributor-chain v width (value % 2 ^ 32) place (locateDistributor offset width) p at)
       (λ v n asserted there past. one (Changed v n (moves.SetLevel asserted)) refl (record { there = there; fits = past }))

@@ -94,7 +94,8 @@ valid shape s h = held-validated s shape (h .lawful .in-range)
 module _ (shape : Shape) (s : List ℕ) (h : Controls shape s) (P : Call → Outcome → Type 0)
     (refuses : (c : Call) (r : Refusal) → Ordinary (refusalNumber r) → P c (refused r s))
     (reads : (c : Call) (x : ℕ) → P c (gave x s))
-    (acknowledges : (v offset : ℕ) (width : AccessWidth) → (enabledAt shape s ≡ true → v < shape .count)
+    (acknowledges : (v offset : ℕ) (width : AccessWidth) (register : CpuInterfaceRegister) → locateCpuInterface offset width ≡ interface.At register
+    → interface-looks.acknowledging register ≡ true → (enabledAt shape s ≡ true → v < shape .count)
     → P (ReadCpuInterface v offset width) (interface-frame.readAnswer (acknowledge shape v s) s (acknowledged shape v s)))
     (writes : (v offset : ℕ) (width : AccessWidth) (value : ℕ) (register : CpuInterfaceRegister) → (interface-looks.writeLooksUp register (value % 2 ^ 32) ≡ true → v < shape .count)
     → P (WriteCpuInterface v offset width value)
@@ -118,13 +119,14 @@ module _ (shape : Shape) (s : List ℕ) (h : Controls shape s) (P : Call → Out
   private-width : (c : Call) (v : ℕ) → P c (distributor-frame.privateWidth shape v s)
   private-width c v = looked c true v (refused refusal.Width s) (λ e. refuses c refusal.Width (few (omega arith)))
 
-  interface-read : (v offset : ℕ) (width : AccessWidth) (a : CpuInterfaceAccess) → Passes a → P (ReadCpuInterface v offset width) (interface-frame.readAccess shape v a s)
-  interface-read v offset width (interface.Refused r) p = refuses (ReadCpuInterface v offset width) r (few (omega (arith, p)))
-  interface-read v offset width (interface.At register) p =
-      each-read shape v s (λ looksUp answer r. P c (lookedUp looksUp shape v s (interface-frame.readAnswer answer s r)))
-      (λ looksUp x. looked c looksUp v (gave x s) (λ e. reads c x))
-      (looked c (enabledAt shape s) v (interface-frame.readAnswer (acknowledge shape v s) s (acknowledged shape v s)) (λ e. acknowledges v offset width (present (enabledAt shape s) shape v e)))
-      register
+  interface-read : (v offset : ℕ) (width : AccessWidth) (a : CpuInterfaceAccess) → locateCpuInterface offset width ≡ a → Passes a → P (ReadCpuInterface v offset width) (interface-frame.readAccess shape v a s)
+  interface-read v offset width (interface.Refused r) q p = refuses (ReadCpuInterface v offset width) r (few (omega (arith, p)))
+  interface-read v offset width (interface.At register) q p =
+      each-read shape v s (λ k looksUp answer r. locateCpuInterface offset width ≡ interface.At k → P c (lookedUp looksUp shape v s (interface-frame.readAnswer answer s r)))
+      (λ k looksUp x at. looked c looksUp v (gave x s) (λ e. reads c x))
+      (λ k is at. looked c (enabledAt shape s) v (interface-frame.readAnswer (acknowledge shape v s) s (acknowledged shape v s))
+      (λ e. acknowledges v offset width k at is (present (enabledAt shape s) shape v e)))
+      register q
     where
       c : Call
       c = ReadCpuInterface v offset width
@@ -165,7 +167,7 @@ module _ (shape : Shape) (s : List ℕ) (h : Controls shape s) (P : Call → Out
   each-call (Setup count limit) e = absurd (true≢false e)
   each-call (ReadDistributor v offset width) e = rw (valid shape s h) (distributor-read v offset width (locateDistributor offset width) refl)
   each-call (WriteDistributor v offset width value) e = rw (valid shape s h) (distributor-write v offset width value (locateDistributor offset width) refl)
-  each-call (ReadCpuInterface v offset width) e = rw (valid shape s h) (interface-read v offset width (locateCpuInterface offset width) (interface-access offset width))
+  each-call (ReadCpuInterface v offset width) e = rw (valid shape s h) (interface-read v offset width (locateCpuInterface offset width) refl (interface-access offset width))
   each-call (WriteCpuInterface v offset width value) e = rw (valid shape s h) (interface-write v offset width value (locateCpuInterface offset width) (interface-access offset width))
   each-call (SetLevel v n asserted) e = rw (valid shape s h) (input (SetLevel v n asserted) v n (Level asserted) (levels v n asserted) (inputOf shape n) refl (input-is shape n))
   each-call (Pulse v n) e = rw (valid shape s h) (input (Pulse v n) v n Edge (pulses v n) (inputOf shape n) refl (input-is shape n))

@@ -369,3 +369,9 @@ move-controls {shape} {s} h m o = record { lawful = move-lawful shape s (h .lawf
 pub chain-controls : {shape : Shape} {May : Move → Type 0} {s r : List ℕ} → Chain shape May s r → Controls shape s → Controls shape r
 chain-controls none h = h
 chain-controls (more c m may o) h = move-controls (chain-controls c h) m o
+
+-- what every move of a chain keeps, the chain keeps
+pub chain-keeps : {shape : Shape} {May : Move → Type 0} {s r : List ℕ} (P : List ℕ → Type 0)
+    → ((m : Move) (t : List ℕ) → May m → Open shape m t → Controls shape t → P t → P (moved shape m t)) → Chain shape May s r → Controls shape s → P s → P r
+chain-keeps P step none h p = p
+chain-keeps P step (more {r = t} c m may o) h p = step m t may o (chain-controls c h) (chain-keeps P step c h p)
