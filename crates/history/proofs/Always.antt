@@ -1,13 +1,13 @@
 -- Demand 3: "Take a fresh controller and any sequence of calls, refused ones included, each acting as demand 2 defines it." What is here
 -- is about the words that the calls leave, for every count and limit that setup accepts, whatever the lent words held before. Assumes nothing.
 use mathlib.Core.Path.{_≡_, refl, sym, subst}
-use mathlib.Core.Bool.{Bool, true, false, not, cond, false≢true}
+use mathlib.Core.Bool.{Bool, true, false, not, cond}
 use mathlib.Core.List.{List, [], _∷_}
 use Prim.Native.Nat.{ℕ, _≤_, _<_}
 use native.Mathlib.Omega.{arith}
 use lib.Dec.{leb}
 use lib.ListN.{length, getD}
-use borrow.Author.Tests.{leb-true}
+use borrow.Author.Tests.{leb-true, not-true}
 use Rattle.register.specs.declared.frame.Refusal.the-variants.{ShortState}
 use Rattle.state.specs.declared.layout.Shape.{Shape}
 use Rattle.state.specs.declared.lent.Limited.{Limited}
@@ -81,11 +81,7 @@ pub same-controller : (shape : Shape) (cs : List Call) → noSetup cs ≡ true �
 unfolding run
 same-controller shape [] e s h = h
 same-controller shape (c ∷ cs) e s h =
-    same-controller shape cs (right-true (not (isSetup c)) (noSetup cs) e) (called c s .state) (every-other-call shape c (not-false (isSetup c) (left-true (not (isSetup c)) (noSetup cs) e)) s h)
-  where
-    not-false : (b : Bool) → not b ≡ true → b ≡ false
-    not-false true p = absurd (false≢true p)
-    not-false false p = refl
+    same-controller shape cs (right-true (not (isSetup c)) (noSetup cs) e) (called c s .state) (every-other-call shape c (not-true (isSetup c) (left-true (not (isSetup c)) (noSetup cs) e)) s h)
 
 -- no call to a controller is refused by 6, and no acknowledge by 7
 module _ (s : List ℕ) (h : Controller s) where

@@ -38,7 +38,7 @@ use Rattle.lawful.proofs.Depths.{running-newest}
 use Rattle.moves.specs.Moves.{Change, Move, Changed, Sourced, Kept, Switched, Given, Popped, becomes, resourced, moved, OffDepth, Changing, Sourcing, Keeping, Giving, Popping, Open, Chain, none, more}
 use Rattle.moves.proofs.Parts.{StackFine, SgiFine, stack-fine, record-fine, parts-lawful, stack-kept, records-kept, sgis-kept, all-records, all-sgis}
 use Rattle.moves.proofs.Records.{Fine, change-fine, sgi-pending, given-fine, pended-fine, change-in-range}
-use Rattle.moves.proofs.Slots.{StackOf, Touches, served, givable, move-room, move-others, touched-kind}
+use Rattle.moves.proofs.Slots.{no-number, StackOf, Touches, served, givable, move-room, move-others, touched-kind}
 
 -- a value that is no depth
 notDepth : Slot → Type 0
@@ -173,13 +173,9 @@ module _ (shape : Shape) (s : List ℕ) (h : Lawful shape s) where
     sourced-lawful : Lawful shape sourced
     sourced-lawful =
         one-number (Sourced v n on byte) o v n there (λ t off p. p)
-        (λ u b. stack (Sourced v n on byte) o u b (no-stack (Interface u Depth) (λ q. omega arith) (λ q. omega arith)) (λ i. no-stack (Stack u i) (λ q. omega arith) (λ q. omega arith)))
+        (λ u b. stack (Sourced v n on byte) o u b (no-number v n (Interface u Depth) (λ q. omega arith) (λ q. omega arith)) (λ i. no-number v n (Stack u i) (λ q. omega arith) (λ q. omega arith)))
         (rw sourced-record (pended-fine (not (eqb sources 0)) (record-fine shape s h v n there)))
         (λ sgi. record { sourced = rw (sourced-sources, sourced-record) (pending-set (recordAt shape v n s) (not (eqb sources 0))) })
-      where
-        no-stack : (t : Slot) → (kindOf t ≡ 5 → ⊥) → (kindOf t ≡ 4 → ⊥) → Of v n t → ⊥
-        no-stack t a b (inl p) = apart-record t v n a p
-        no-stack t a b (inr p) = kinds-apart t (Sources v n) b p
 
   -- an interface value, the Distributor's enable bit
   kept-lawful : (v : ℕ) (k : InterfaceValue) (x : ℕ) → Keeping shape v k → Lawful shape (moved shape (Kept v k x) s)
@@ -332,8 +328,7 @@ module _ (shape : Shape) (s : List ℕ) (h : Lawful shape s) where
         touched t off (inr p) = absurd (off p)
 
         no-stack : (t : Slot) → (kindOf t ≡ 5 → ⊥) → (kindOf t ≡ 4 → ⊥) → (StackOf v t → ⊥) → Touches (Given v e) t → ⊥
-        no-stack t a b c (inl (inl p)) = apart-record t v n a p
-        no-stack t a b c (inl (inr p)) = kinds-apart t (Sources v n) b p
+        no-stack t a b c (inl p) = no-number v n t a b p
         no-stack t a b c (inr p) = c p
 
   pub move-lawful : (m : Move) → Open shape m s → Lawful shape (moved shape m s)

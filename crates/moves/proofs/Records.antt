@@ -1,14 +1,13 @@
 -- Every change of one record keeps what a lawful state asks of it: one clause for each transition. Assumes nothing.
 use mathlib.Core.Path.{_≡_, refl, sym, subst, _∙_}
 use mathlib.Core.Bool.{Bool, true, false, not, cond, _&&_, _||_, true≢false, false≢true}
-use Prim.Native.Nat.{ℕ, _^_, _≤_, _<_}
+use Prim.Native.Nat.{ℕ, _≤_, _<_}
 use native.Mathlib.Nat.{lt-of-lt-of-le}
 use native.Mathlib.Omega.{arith}
 use lib.Pow.{pow-mono}
-use Rattle.interrupt.specs.declared.record.CpuTargetMask.the-variants.{Mask}
+use borrow.Author.Tests.{not-true}
 use Rattle.interrupt.specs.declared.record.InterruptRecord.{InterruptRecord}
-use Rattle.interrupt.specs.declared.record.Owner.{Owner}
-use Rattle.interrupt.specs.declared.record.Owner.the-variants.{Nobody, Vcpu}
+use Rattle.interrupt.specs.declared.record.Owner.the-variants.{Nobody}
 use Rattle.interrupt.specs.Record.{setEnabled, setPending, setActive, cancelInflight, setPriority, setTrigger, setCpuTargetMask, setOwner, setState, setLevel, pulse, complete, markInflight, synchronizeInflight, deactivateInflight, held, risesInService, fallsIdle}
 use Rattle.word.specs.Word.{InRange}
 use Rattle.state.specs.declared.layout.Shape.{Shape}
@@ -23,10 +22,6 @@ use Rattle.moves.specs.Moves.{Change, SetEnabled, SetPending, SetActive,
 pub record Fine (shape : Shape) (v n : ℕ) (r : InterruptRecord) : Type 0 where
   pub orderly : OrderlyRecord shape r
   pub lawful : LawfulRecord shape v n r
-
-not-true : (b : Bool) → not b ≡ true → b ≡ false
-not-true true e = absurd (false≢true e)
-not-true false e = refl
 
 or-false : (b : Bool) → (b || false) ≡ b
 or-false true = refl

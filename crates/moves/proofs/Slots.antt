@@ -16,7 +16,7 @@ use Rattle.state.specs.Layout.{Slot, Count, Limit, DistributorControl, Interfac
 use Rattle.state.specs.Words.{wordAt, kept, recordSlot, recordAt, sourcesAt, withSources}
 use Rattle.state.proofs.Accessors.{put-room, put-other, record-exists}
 use Rattle.state.proofs.Numbers.{Of}
-use Rattle.state.proofs.SlotKinds.{kindOf, record-kind}
+use Rattle.state.proofs.SlotKinds.{kindOf, kinds-apart, record-kind, apart-record}
 use Rattle.sgi.specs.Sgi.{mergedSources}
 use Rattle.sgi.proofs.Rings.{sgi-exists}
 use Rattle.service.specs.Service.{depthAt, Served}
@@ -87,6 +87,11 @@ module _ (shape : Shape) (s : List ℕ) (h : Lawful shape s) where
       (λ p. away (inr (subst (StackOf v) (sym p) refl))) (λ p. away (inr (subst (StackOf v) (sym p) refl)))
   move-others (Popped v) o t x away =
       popped-others shape v s (served v (o .exists)) (o .some) t x (λ p. away (subst (StackOf v) (sym p) refl)) (λ p. away (subst (StackOf v) (sym p) refl))
+
+-- what is neither a record nor a source set is no number's
+pub no-number : (v n : ℕ) (t : Slot) → (kindOf t ≡ 5 → ⊥) → (kindOf t ≡ 4 → ⊥) → Of v n t → ⊥
+no-number v n t a b (inl p) = apart-record t v n a p
+no-number v n t a b (inr p) = kinds-apart t (Sources v n) b p
 
 -- no move touches the stored count and limit, which are of the first two kinds
 of-kind : (v n : ℕ) (t : Slot) → Of v n t → 2 ≤ kindOf t

@@ -1,0 +1,109 @@
+-- What the calls of the stories come to in a controller: a ring, an acknowledge, an end, a pulse. Assumes nothing.
+use mathlib.Core.Path.{_≡_, refl, sym, ap, subst, _∙_}
+use mathlib.Core.Bool.{Bool, true, false, cond, _&&_, false≢true, true≢false}
+use mathlib.Core.List.{List}
+use Prim.Native.Nat.{ℕ, _+_, _*_, _%_, _^_, _≤_, _<_}
+use native.Mathlib.Nat.{mod-eq-of-lt}
+use native.Mathlib.Omega.{arith}
+use lib.Dec.{eqb, leb, ltb}
+use borrow.Author.Tests.{ltb-true, lt-ltb, le-leb, lt-leb, eq-eqb}
+use Rattle.interrupt.specs.declared.types.DecodedIntId.the-variants.{Valid}
+use Rattle.interrupt.specs.Record as record-of
+use Rattle.interrupt.specs.Types.{decoded}
+use Rattle.register.specs.declared.frame.AccessWidth.the-variants.{Dword}
+use Rattle.register.specs.declared.distributor.DistributorAccess.the-variants as distributor
+use Rattle.register.specs.declared.«cpu_interface».CpuInterfaceAccess.the-variants as interface
+use Rattle.register.specs.declared.«cpu_interface».CpuInterfaceRegister.the-variants.{Iar, Eoir}
+use Rattle.register.specs.declared.ranges.Class.the-variants.{Sgir}
+use Rattle.register.specs.CpuInterface.{registers, registerIn, registerAt, locateCpuInterface}
+use Rattle.register.specs.Distributor.{plain, single, locateInFrame, locateDistributor}
+use Rattle.register.specs.Ranges.{ranges, rangeIn, rangeAt}
+use Rattle.state.specs.declared.layout.Shape.{Shape}
+use Rattle.state.specs.Words.{RecordThere, enabledAt, changed}
+use Rattle.sgi.specs.declared.SgiTarget.{SgiTarget}
+use Rattle.sgi.specs.declared.SgiTarget.the-variants.{Mask, AllExceptSelf, SelfOnly, Nobody}
+use Rattle.sgi.specs.Sgi.{sgiTarget, includes, writeSgir}
+use Rattle.acknowledge.specs.declared.Read.{Read}
+use Rattle.acknowledge.specs.declared.Read.the-variants.{Value, StackFull}
+use Rattle.acknowledge.specs.Acknowledge as acknowledge-of
+use Rattle.end.specs.End as end-of
+use Rattle.places.specs.Places.{names, sends}
+use Rattle.answer.specs.Answer.{Outcome, gave, went, absent}
+use Rattle.distributor_frame.specs.DistributorFrame.{writeV2Distributor}
+use Rattle.cpu_interface_frame.specs.CpuInterfaceFrame.{readAnswer, readV2CpuInterface, writeV2CpuInterface}
+use Rattle.input.specs.Input.{inputOf, deviceInput}
+use Rattle.lawful.specs.Lawful.{Controls}
+use Rattle.wake.specs.Wake.{isSpurious}
+use Rattle.history.specs.History.{Pulse, called}
+use Rattle.history.proofs.Each.{valid}
+use Rattle.stories.specs.Stories.{ring, acknowledge, end}
+
+-- where the three registers are
+iar-at : locateCpuInterface 0x0c Dword ≡ interface.At Iar
+unfolding locateCpuInterface registerAt registerIn registers
+iar-at = refl
+
+eoir-at : locateCpuInterface 0x10 Dword ≡ interface.At Eoir
+unfolding locateCpuInterface registerAt registerIn registers
+eoir-at = refl
+
+sgir-at : locateDistributor 0xf00 Dword ≡ distributor.At (plain Sgir)
+unfolding locateDistributor locateInFrame single rangeAt rangeIn ranges
+sgir-at = refl
+
+-- a vCPU that exists is found
+found : (looksUp : Bool) (shape : Shape) (v : ℕ) → v < shape .count → absent looksUp shape v ≡ false
+found true shape v exists = lt-leb (shape .count) v exists
+found false shape v exists = refl
+
+-- a target that somebody is in names somebody
+named : (target : SgiTarget) (v t : ℕ) → includes target v t ≡ true → names target ≡ true
+named (Mask byte) v t e = refl
+named AllExceptSelf v t e = refl
+named SelfOnly v t e = refl
+named Nobody v t e = absurd (false≢true e)
+
+decoded-valid : (n : ℕ) → n < 1020 → decoded n ≡ Valid (record { 0 = n })
+unfolding decoded
+decoded-valid n below = simp (lt-ltb n 1020 below)
+
+module _ (shape : Shape) (s : List ℕ) (h : Controls shape s) (v : ℕ) where
+  pub acknowledge-call : v < shape .count → called (acknowledge v) s ≡ readAnswer (acknowledge-of.acknowledge shape v s) s (acknowledge-of.acknowledged shape v s)
+  unfolding readV2CpuInterface
+  acknowledge-call exists = simp (valid shape s h, iar-at, found (enabledAt shape s) shape v exists)
+
+  pub end-call : (n : ℕ) → v < shape .count → n < 1020 → called (end v n) s ≡ went shape (end-of.endRetired shape v n s) s (end-of.ended shape v n s)
+  unfolding writeV2CpuInterface
+  end-call n exists below = simp (valid shape s h, eoir-at, decodes, found true shape v exists, number)
+    where
+      low : n % 2 ^ 32 % 1024 ≡ n
+      low = omega (arith, below)
+
+      decodes : ltb (n % 2 ^ 32 % 1024) 1020 ≡ true
+      decodes = rw low (lt-ltb n 1020 below)
+
+      number : end-of.decodedEoi (n % 2 ^ 32) ≡ Valid (record { 0 = n })
+      number = ap decoded low ∙ decoded-valid n below
+
+  pub ring-call : (value t : ℕ) → v < shape .count → includes (sgiTarget (value % 2 ^ 32)) v t ≡ true → called (ring v value) s ≡ went shape 1023 s (writeSgir shape v (value % 2 ^ 32) s)
+  unfolding writeV2Distributor
+  ring-call value t exists e = simp (valid shape s h, sgir-at, named (sgiTarget (value % 2 ^ 32)) v t e, found true shape v exists)
+
+  pub pulse-call : (n : ℕ) → RecordThere shape v n → 16 ≤ n → called (Pulse v n) s ≡ went shape 1023 s (changed shape v n record-of.pulse s)
+  unfolding deviceInput inputOf
+  pulse-call n there past = simp (valid shape s h, le-leb 16 n past, lt-ltb n (shape .limit) (there .numbered), looked)
+    where
+      looked : absent (ltb n 32) shape v ≡ false
+      looked = go (ltb n 32) refl
+        where
+          go : (b : Bool) → ltb n 32 ≡ b → absent b shape v ≡ false
+          go true e = found true shape v (there .banked (ltb-true n 32 e))
+          go false e = refl
+
+  -- who would be answered 1023 is quiet
+  pub asleep-quiet : v < shape .count → called (acknowledge v) s .value ≡ 1023 → isSpurious (acknowledge-of.acknowledge shape v s) ≡ true
+  asleep-quiet exists e = go (acknowledge-of.acknowledge shape v s) (rw (acknowledge-call exists) at e)
+    where
+      go : (a : Read) → readAnswer a s (acknowledge-of.acknowledged shape v s) .value ≡ 1023 → isSpurious a ≡ true
+      go (Value x) p = eq-eqb x 1023 p
+      go StackFull p = absurd (omega (arith, p))

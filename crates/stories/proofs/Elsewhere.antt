@@ -1,0 +1,187 @@
+-- Calls elsewhere leave the SGI n at t, its enabling and t's stack as they were: none of their moves touches a slot of these. Assumes nothing.
+use mathlib.Core.Path.{_≡_, refl, sym, ap, subst, _∙_}
+use mathlib.Core.Bool.{Bool, true, false, not, cond, _&&_, false≢true, true≢false}
+use mathlib.Core.List.{List, [], _∷_}
+use mathlib.Core.Logic.{_⊎_, inl, inr}
+use Prim.Native.Nat.{ℕ, _+_, _%_, _^_, _≤_, _<_}
+use native.Mathlib.Omega.{arith}
+use lib.Dec.{eqb, ltb}
+use borrow.Author.Tests.{eqb-false, eq-eqb, not-true}
+use Rattle.register.specs.declared.frame.AccessWidth.{AccessWidth}
+use Rattle.register.specs.declared.ranges.ByteRegister.{ByteRegister}
+use Rattle.register.specs.declared.ranges.ByteRegister.the-variants.{Ipriorityr, Itargetsr, Cpendsgir, Spendsgir}
+use Rattle.register.specs.declared.ranges.Class.{Class}
+use Rattle.register.specs.declared.ranges.Class.the-variants.{Ctlr, Typer, Iidr, Sgir, Bits, Bytes, Other}
+use Rattle.register.specs.declared.distributor.DistributorAccess.{DistributorAccess}
+use Rattle.register.specs.declared.distributor.DistributorAccess.the-variants.{Refused, PrivateWidth, At}
+use Rattle.register.specs.Distributor.{locateDistributor}
+use Rattle.register.specs.Frame.{bytes}
+use Rattle.word.specs.Fields.{fieldAt}
+use Rattle.state.specs.declared.layout.Shape.{Shape}
+use Rattle.state.specs.declared.layout.InterfaceValue.the-variants.{Control, PriorityMask, BinaryPoint, Depth}
+use Rattle.state.specs.Layout.{Slot, Count, Limit, DistributorControl, Interface, Sources, Private, Spi, Stack}
+use Rattle.state.specs.Words.{recordSlot}
+use Rattle.state.proofs.Steps.{Agree}
+use Rattle.state.proofs.Tests.{left-true, right-true}
+use Rattle.sgi.specs.Sgi.{sgiTarget, includes}
+use Rattle.lawful.specs.Lawful.{Controls}
+use Rattle.moves.specs.Moves as moves
+use Rattle.moves.specs.Moves.{Move, Changed, Sourced, Kept, Switched, Given, Popped, Open}
+use Rattle.moves.proofs.Controllers.{chain-keeps}
+use Rattle.moves.proofs.Slots.{StackOf, Touches, move-others}
+use Rattle.history.specs.History.{Call, Setup, ReadDistributor, WriteDistributor, ReadCpuInterface, WriteCpuInterface, SetLevel, Pulse, isSetup, called, run}
+use Rattle.history.proofs.Always.{every-other-call}
+use Rattle.history.proofs.Calls.{call-chain}
+use Rattle.history.proofs.Made.{byteMove, ClassMade, PlaceMade, ReadMade, WriteMade, Made}
+use Rattle.stories.specs.Stories.{leavesAt, leaves, elsewhere, allElsewhere}
+
+-- the slots that tell how the SGI n stands at t
+abbrev pub Concerns : ℕ → ℕ → Slot → Type 0
+Concerns t n Count = ⊥
+Concerns t n Limit = ⊥
+Concerns t n DistributorControl = Unit
+Concerns t n (Interface v k) = v ≡ t
+Concerns t n (Sources v m) = (v ≡ t) × (m ≡ n)
+Concerns t n (Private v m) = (v ≡ t) × (m ≡ n)
+Concerns t n (Spi m) = ⊥
+Concerns t n (Stack v i) = v ≡ t
+
+-- a move that is away from them
+abbrev Away : ℕ → ℕ → Move → Type 0
+Away t n (Changed v k c) = v ≡ t → k ≡ n → ⊥
+Away t n (Sourced v k on byte) = v ≡ t → k ≡ n → ⊥
+Away t n (Kept v k x) = v ≡ t → ⊥
+Away t n (Switched on) = ⊥
+Away t n (Given v e) = v ≡ t → ⊥
+Away t n (Popped v) = v ≡ t → ⊥
+
+module _ (t n : ℕ) where
+  of-record : (v k : ℕ) (x : Slot) → x ≡ recordSlot v k → Concerns t n x → (v ≡ t) × (k ≡ n)
+  unfolding recordSlot
+  of-record v k x p c = go (ltb k 32) (subst (Concerns t n) p c)
+    where
+      go : (b : Bool) → Concerns t n (cond b (Private v k) (Spi k)) → (v ≡ t) × (k ≡ n)
+      go true q = q
+      go false q = absurd q
+
+  of-sources : (v k : ℕ) (x : Slot) → x ≡ Sources v k → Concerns t n x → (v ≡ t) × (k ≡ n)
+  of-sources v k x p c = subst (Concerns t n) p c
+
+  of-stack : (v : ℕ) (x : Slot) → StackOf v x → Concerns t n x → v ≡ t
+  of-stack v Count p c = absurd p
+  of-stack v Limit p c = absurd p
+  of-stack v DistributorControl p c = absurd p
+  of-stack v (Interface u Control) p c = absurd p
+  of-stack v (Interface u PriorityMask) p c = absurd p
+  of-stack v (Interface u BinaryPoint) p c = absurd p
+  of-stack v (Interface u Depth) p c = sym p ∙ c
+  of-stack v (Sources u k) p c = absurd p
+  of-stack v (Private u k) p c = absurd p
+  of-stack v (Spi k) p c = absurd p
+  of-stack v (Stack u i) p c = sym p ∙ c
+
+  untouched : (m : Move) → Away t n m → (x : Slot) → Concerns t n x → Touches m x → ⊥
+  untouched (Changed v k c) away x con p = let q = of-record v k x p con in away (q .0) (q .1)
+  untouched (Sourced v k on byte) away x con (inl p) = let q = of-record v k x p con in away (q .0) (q .1)
+  untouched (Sourced v k on byte) away x con (inr p) = let q = of-sources v k x p con in away (q .0) (q .1)
+  untouched (Kept v k y) away x con p = away (subst (Concerns t n) p con)
+  untouched (Switched on) away x con p = away
+  untouched (Given v e) away x con (inl (inl p)) = away (of-record v (e .intid .0) x p con .0)
+  untouched (Given v e) away x con (inl (inr p)) = away (of-sources v (e .intid .0) x p con .0)
+  untouched (Given v e) away x con (inr p) = away (of-stack v x p con)
+  untouched (Popped v) away x con p = away (of-stack v x p con)
+
+  -- the moves of a write to the Distributor by another vCPU
+  byte-away : (shape : Shape) (v : ℕ) → (v ≡ t → ⊥) → (register : ByteRegister) (k byte : ℕ) → Away t n (byteMove shape register v k byte)
+  byte-away shape v apart Ipriorityr k byte = λ p q. apart p
+  byte-away shape v apart Itargetsr k byte = λ p q. apart p
+  byte-away shape v apart Cpendsgir k byte = λ p q. apart p
+  byte-away shape v apart Spendsgir k byte = λ p q. apart p
+
+  class-away : (shape : Shape) (v : ℕ) → (v ≡ t → ⊥) → (c : Class) (first : ℕ) (width : AccessWidth) (value : ℕ) → leavesAt t n v value c ≡ true
+      → (m : Move) → ClassMade shape v c first width value m → Away t n m
+  class-away shape v apart Ctlr first width value e m made = absurd (false≢true e)
+  class-away shape v apart Typer first width value e m made = absurd made
+  class-away shape v apart Iidr first width value e m made = absurd made
+  class-away shape v apart Sgir first width value e m made =
+      subst (Away t n) (sym (made .is))
+      (λ p q. absurd (true≢false (sym (both (made .named) p q) ∙ not-true (eqb (value % 16) n && includes (sgiTarget value) v t) e)))
+    where
+      both : {u : ℕ} → includes (sgiTarget value) v u ≡ true → u ≡ t → value % 16 ≡ n → (eqb (value % 16) n && includes (sgiTarget value) v t) ≡ true
+      both {u} i p q = simp (eq-eqb (value % 16) n q, subst (λ (k : ℕ). includes (sgiTarget value) v k ≡ true) p i)
+  class-away shape v apart (Bits register) first width value e m made = subst (Away t n) (sym (made .is)) (λ p q. apart p)
+  class-away shape v apart (Bytes register) first width value e m made = subst (Away t n) (sym (made .is)) (byte-away shape v apart register (first + made .at) (fieldAt 8 (made .at) value))
+  class-away shape v apart Other first width value e m made = absurd made
+
+  place-away : (shape : Shape) (v : ℕ) → (v ≡ t → ⊥) → (a : DistributorAccess) (width : AccessWidth) (value : ℕ) → leaves t n v value a ≡ true
+      → (m : Move) → PlaceMade shape v a width value m → Away t n m
+  place-away shape v apart (Refused r) width value e m made = absurd made
+  place-away shape v apart PrivateWidth width value e m made = absurd made
+  place-away shape v apart (At place) width value e m made = class-away shape v apart (place .class) (place .first .0) width value e m made
+
+  -- of an access to another's CPU interface
+  read-away : (v : ℕ) → (v ≡ t → ⊥) → (m : Move) → ReadMade v m → Away t n m
+  read-away v apart (Changed u k c) made = absurd made
+  read-away v apart (Sourced u k on byte) made = absurd made
+  read-away v apart (Kept u k x) made = absurd made
+  read-away v apart (Switched on) made = made
+  read-away v apart (Given u e) made = λ p. apart (sym made ∙ p)
+  read-away v apart (Popped u) made = absurd made
+
+  write-away : (v : ℕ) → (v ≡ t → ⊥) → (m : Move) → WriteMade v m → Away t n m
+  write-away v apart (Changed u k c) made = λ p q. apart (sym (made .0) ∙ p)
+  write-away v apart (Sourced u k on byte) made = absurd made
+  write-away v apart (Kept u k x) made = λ p. apart (sym made ∙ p)
+  write-away v apart (Switched on) made = made
+  write-away v apart (Given u e) made = absurd made
+  write-away v apart (Popped u) made = λ p. apart (sym made ∙ p)
+
+  other-vcpu : (v : ℕ) → not (eqb v t) ≡ true → v ≡ t → ⊥
+  other-vcpu v e = eqb-false v t (not-true (eqb v t) e)
+
+  module _ (sgi : n < 16) where
+    made-away : (shape : Shape) (c : Call) → elsewhere t n c ≡ true → (m : Move) (r : List ℕ) → Made shape c m → Open shape m r → Away t n m
+    made-away shape (Setup count limit) e m r made o = absurd made
+    made-away shape (ReadDistributor v offset width) e m r made o = absurd made
+    made-away shape (WriteDistributor v offset width value) e m r made o =
+        let keeps : Bool = leaves t n v (value % 2 ^ 32) (locateDistributor offset width) in
+        place-away shape v (other-vcpu v (left-true (not (eqb v t)) keeps e)) (locateDistributor offset width) width (value % 2 ^ 32) (right-true (not (eqb v t)) keeps e) m made
+    made-away shape (ReadCpuInterface v offset width) e m r made o = read-away v (other-vcpu v e) m made
+    made-away shape (WriteCpuInterface v offset width value) e m r made o = write-away v (other-vcpu v e) m made
+    made-away shape (SetLevel v k asserted) e m r made o =
+        subst (Away t n) (sym made) (λ p q. absurd (omega (arith, sgi, q, subst (λ (x : Move). Open shape x r) made o .fits)))
+    made-away shape (Pulse v k) e m r made o = subst (Away t n) (sym made) (λ p q. absurd (omega (arith, sgi, q, subst (λ (x : Move). Open shape x r) made o .fits)))
+
+    no-setup : (c : Call) → elsewhere t n c ≡ true → isSetup c ≡ false
+    no-setup (Setup count limit) e = absurd (false≢true e)
+    no-setup (ReadDistributor v offset width) e = refl
+    no-setup (WriteDistributor v offset width value) e = refl
+    no-setup (ReadCpuInterface v offset width) e = refl
+    no-setup (WriteCpuInterface v offset width value) e = refl
+    no-setup (SetLevel v k asserted) e = refl
+    no-setup (Pulse v k) e = refl
+
+    call-agrees : (shape : Shape) (c : Call) → elsewhere t n c ≡ true → (s : List ℕ) → Controls shape s → Agree shape (Concerns t n) (called c s .state) s
+    call-agrees shape c e s h =
+        chain-keeps (λ r. Agree shape (Concerns t n) r s)
+        (λ m r made o controls before. record {
+          agree = λ x exists con. move-others shape r (controls .lawful) m o x exists (untouched m (made-away shape c e m r made o) x con) ∙ before .agree x exists con;
+        })
+        (call-chain shape s h c (no-setup c e)) h (record { agree = λ x exists con. refl })
+
+    -- over a history: a controller still, and all as it was
+    pub elsewhere-controls : (shape : Shape) (cs : List Call) → allElsewhere t n cs ≡ true → (s : List ℕ) → Controls shape s → Controls shape (run cs s)
+    unfolding run
+    elsewhere-controls shape [] e s h = h
+    elsewhere-controls shape (c ∷ cs) e s h =
+        let here = left-true (elsewhere t n c) (allElsewhere t n cs) e in
+        elsewhere-controls shape cs (right-true (elsewhere t n c) (allElsewhere t n cs) e) (called c s .state) (every-other-call shape c (no-setup c here) s h)
+
+    pub elsewhere-agrees : (shape : Shape) (cs : List Call) → allElsewhere t n cs ≡ true → (s : List ℕ) → Controls shape s → Agree shape (Concerns t n) (run cs s) s
+    unfolding run
+    elsewhere-agrees shape [] e s h = record { agree = λ x exists con. refl }
+    elsewhere-agrees shape (c ∷ cs) e s h =
+        let here = left-true (elsewhere t n c) (allElsewhere t n cs) e in
+        let after = every-other-call shape c (no-setup c here) s h in
+        let later = elsewhere-agrees shape cs (right-true (elsewhere t n c) (allElsewhere t n cs) e) (called c s .state) after in
+        record { agree = λ x exists con. later .agree x exists con ∙ call-agrees shape c here s h .agree x exists con }

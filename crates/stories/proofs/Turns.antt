@@ -1,0 +1,102 @@
+-- An interrupt whose turn it is at a vCPU is what an acknowledge hands out; a vCPU that has one that it can take is not quiet. Assumes nothing.
+use mathlib.Core.Path.{_≡_, refl, sym, ap, subst, _∙_}
+use mathlib.Core.Bool.{Bool, true, false, cond, _&&_, _||_, false≢true, true≢false}
+use mathlib.Core.List.{List}
+use Prim.Native.Nat.{ℕ, _+_, _*_, _/_, _%_, _^_, _≤_, _<_}
+use native.Mathlib.Nat.{one-mul}
+use native.Mathlib.Omega.{arith}
+use lib.Dec.{eqb, leb, ltb}
+use borrow.Author.Tests.{lt-ltb, ltb-true, ltb-false, eq-eqb}
+use Rattle.word.specs.Fields.{gathered}
+use Rattle.word.specs.Word.{bitOf}
+use Rattle.word.proofs.Gathered.{gathered-field}
+use Rattle.word.proofs.RecordWord.{bit-fits, bit-back}
+use Rattle.state.specs.declared.layout.Shape.{Shape}
+use Rattle.state.specs.declared.words.Entry.{Entry}
+use Rattle.state.specs.Words.{recordAt}
+use Rattle.select.specs.declared.Selected.{Selected}
+use Rattle.select.specs.declared.Selected.the-variants.{Best, Nothing}
+use Rattle.select.specs.Select.{candidate, entryFor, best, IsBest}
+use Rattle.select.proofs.Meaning.{is-best}
+use Rattle.service.specs.Service.{depthAt}
+use Rattle.acknowledge.specs.Acknowledge as acknowledge-of
+use Rattle.acknowledge.specs.Acknowledge.{offer, sourceOf, given}
+use Rattle.wake.specs.Wake.{isSpurious, isNumber, woken, wakeSet, urgent, ready}
+use Rattle.wake.proofs.Readiness.{some-at, ready-offer, ready-number}
+use Rattle.delivery.proofs.Answers.{acknowledge-is, acknowledged-is}
+use Rattle.answer.specs.Answer.{Outcome, gave}
+use Rattle.cpu_interface_frame.specs.CpuInterfaceFrame.{readAnswer}
+use Rattle.lawful.specs.Lawful.{Controls}
+use Rattle.lawful.proofs.Depths.{offer-room, at-most-255}
+use Rattle.moves.proofs.Slots.{served}
+use Rattle.history.specs.History.{called}
+use Rattle.waiting.specs.Waiting.{bit}
+use Rattle.stories.specs.Stories.{acknowledge, Takes, ahead, NoneAhead}
+use Rattle.stories.proofs.Calls.{acknowledge-call}
+
+-- neither of two
+left-false : (a b : Bool) → (a || b) ≡ false → a ≡ false
+left-false true b e = absurd (true≢false e)
+left-false false b e = refl
+
+right-false : (a b : Bool) → (a || b) ≡ false → b ≡ false
+right-false true b e = absurd (true≢false e)
+right-false false b e = e
+
+module _ (shape : Shape) (v n : ℕ) (s : List ℕ) (h : Controls shape s) (exists : v < shape .count) (numbered : n < shape .limit)
+    (takes : Takes shape v n s) (pending : recordAt shape v n s .pending ≡ true) where
+  abbrev pub entry : Entry
+  entry = entryFor shape v s n
+
+  is-candidate : candidate shape v s n ≡ true
+  unfolding candidate
+  is-candidate = simp (takes .for-it, takes .enabled, pending, takes .idle, lt-ltb _ _ (takes .unmasked))
+
+  -- whatever else waits, something is handed out
+  is-ready : ready shape v s ≡ true
+  unfolding ready
+  is-ready = simp (takes .on, some-at (urgent shape v s) (shape .limit) n numbered (simp (is-candidate, lt-ltb _ _ (takes .preempts))))
+
+  pub is-number : isNumber (acknowledge-of.acknowledge shape v s) ≡ true
+  is-number = ready-number shape v s (h .lawful .in-range .state .limits) ∙ simp (is-ready, lt-ltb (depthAt shape v s) 255 (room (offer shape v s) refl))
+    where
+      room : (b : Selected) → offer shape v s ≡ b → depthAt shape v s < 255
+      room Nothing p = absurd (true≢false (sym is-ready ∙ (simp p at (ready-offer shape v s))))
+      room (Best e) p = offer-room shape v s (h .lawful .orderly) exists e p
+
+  -- and if nothing goes before it, it is
+  module _ (none : NoneAhead shape v n s) where
+    priority : ℕ → ℕ
+    priority m = recordAt shape v m s .priority .0
+
+    foremost : IsBest shape v s (shape .limit) entry
+    unfolding priority
+    foremost = record {
+      below = numbered;
+      chosen = is-candidate;
+      priority = refl;
+      smallest = λ m b c. ltb-false (recordAt shape v m s .priority .0) (recordAt shape v n s .priority .0) (left-false _ _ (none m b c));
+      first = λ m b c e. ltb-false m n (simp (eq-eqb (priority m) (priority n) e) at (right-false (ltb (priority m) (priority n)) (eqb (priority m) (priority n) && ltb m n) (none m b c)));
+    }
+
+    offered : offer shape v s ≡ Best entry
+    unfolding offer
+    offered = simp (takes .on, is-best shape v s entry foremost, lt-ltb _ _ (takes .preempts))
+
+    pub given-call : called (acknowledge v) s ≡ gave (n + 1024 * sourceOf shape v n s) (given shape v entry s)
+    given-call =
+        let room = offer-room shape v s (h .lawful .orderly) exists entry offered in
+        let lent = served shape s (h .lawful) v exists in
+        acknowledge-call shape s h v exists ∙ simp (acknowledge-is shape v s lent entry offered room, acknowledged-is shape v s lent entry offered room)
+
+    pub given-offered : offer shape v s ≡ Best entry
+    given-offered = offered
+
+-- the bit of a vCPU in a wake set
+pub wake-bit : (shape : Shape) (v : ℕ) (before after : List ℕ) → v < shape .count → isSpurious (acknowledge-of.acknowledge shape v before) ≡ true
+    → isNumber (acknowledge-of.acknowledge shape v after) ≡ true → bit v (wakeSet shape before after) ≡ true
+unfolding wakeSet
+wake-bit shape v before after exists quiet number =
+    let f : ℕ → ℕ = λ u. bitOf (woken shape before after u) in
+    let at : gathered 1 f (shape .count) / 2 ^ v % 2 ≡ f v = rw one-mul at (gathered-field 1 f (λ u. bit-fits (woken shape before after u)) (shape .count) v exists) in
+    ap (λ (x : ℕ). eqb x 1) at ∙ simp (quiet, number)
