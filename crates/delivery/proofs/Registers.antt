@@ -20,8 +20,8 @@ use Rattle.service.specs.Service.{running}
 use Rattle.acknowledge.specs.declared.Read.{Read}
 use Rattle.acknowledge.specs.declared.Read.the-variants.{Value}
 use Rattle.acknowledge.specs.Acknowledge.{offer, taken, acknowledge, acknowledged}
-use Rattle.end.specs.End.{decodedEoi, deactivated, ended, eoiState, dirState}
-use Rattle.cpu_interface.specs.CpuInterface.{readRegister, acknowledging, afterRead, writeRegister, readLooksUp, writeLooksUp, decodes}
+use Rattle.end.specs.End.{decodedEoi, deactivated, retired, ended, endRetired, eoiState, eoiRetired, dirState, dirRetired}
+use Rattle.cpu_interface.specs.CpuInterface.{readRegister, acknowledging, afterRead, writeRegister, writeRetired, readLooksUp, writeLooksUp, decodes}
 use Rattle.cpu_interface.proofs.Decoding.{valid-decodes}
 
 -- a read acknowledges, or gives a value and changes nothing; P is of the register, of whether its vCPU is looked up, of the answer and of the
@@ -46,6 +46,39 @@ module _ (shape : Shape) (v : ℕ) (s : List ℕ) (P : CpuInterfaceRegister → 
   each-read Dir = gives Dir false 0
   each-read Other = gives Other false 0
 
+-- a write keeps a value, ends or deactivates an interrupt, or changes nothing; P is of whether its vCPU is looked up, of what is retired and of the
+-- state after
+module _ (shape : Shape) (v : ℕ) (s : List ℕ) (value : ℕ) (P : Bool → ℕ → List ℕ → Type 0)
+    (nothing : (looksUp : Bool) → P looksUp 1023 s)
+    (keeps : (k : InterfaceValue) → OffStack (Interface v k) → P true 1023 (withInterface shape v k value s))
+    (ends : (n : ℕ) → P true (endRetired shape v n s) (ended shape v n s))
+    (deactivates : (n : ℕ) → P true (retired shape v n s) (deactivated shape v n s)) where
+  eoi-case : (number : DecodedIntId) → decodedEoi value ≡ number → P (decodes value) (eoiRetired shape v number s) (eoiState shape v number s)
+  eoi-case Reserved p = nothing (decodes value)
+  eoi-case (Valid n) p = rw (valid-decodes value n p) (ends (n .0))
+
+  dir-case : (number : DecodedIntId) → decodedEoi value ≡ number → P (decodes value) (dirRetired shape v number s) (dirState shape v number s)
+  dir-case Reserved p = nothing (decodes value)
+  dir-case (Valid n) p = rw (valid-decodes value n p) (deactivates (n .0))
+
+  pub each-write : (register : CpuInterfaceRegister) → P (writeLooksUp register value) (writeRetired shape v register value s) (writeRegister shape v register value s)
+  each-write Ctlr = keeps Control tt
+  each-write Pmr = keeps PriorityMask tt
+  each-write Bpr = keeps BinaryPoint tt
+  each-write Iar = nothing false
+  each-write Eoir = eoi-case (decodedEoi value) refl
+  each-write Rpr = nothing false
+  each-write Hppir = nothing false
+  each-write Abpr = keeps BinaryPoint tt
+  each-write Aiar = nothing false
+  each-write Aeoir = eoi-case (decodedEoi value) refl
+  each-write Ahppir = nothing false
+  each-write Apr = nothing false
+  each-write Iidr = nothing false
+  each-write Dir = dir-case (decodedEoi value) refl
+  each-write Other = nothing false
+
+-- what they keep, of the state alone, by a vCPU that exists where it is looked up
 module _ (shape : Shape) (v : ℕ) (s : List ℕ) (P : List ℕ → Type 0) (same : P s) where
   module _ (give : v < shape .count → P (acknowledged shape v s)) where
     -- while the Distributor is off an acknowledge changes nothing
@@ -64,27 +97,10 @@ module _ (shape : Shape) (v : ℕ) (s : List ℕ) (P : List ℕ → Type 0) (sam
       (keep : v < shape .count → (k : InterfaceValue) → OffStack (Interface v k) → P (withInterface shape v k value s))
       (end : v < shape .count → (n : ℕ) → P (ended shape v n s))
       (off : v < shape .count → (n : ℕ) → P (deactivated shape v n s)) where
-    eoi-case : (number : DecodedIntId) → decodedEoi value ≡ number → (decodes value ≡ true → v < shape .count) → P (eoiState shape v number s)
-    eoi-case Reserved p looked = same
-    eoi-case (Valid n) p looked = end (looked (valid-decodes value n p)) (n .0)
-
-    dir-case : (number : DecodedIntId) → decodedEoi value ≡ number → (decodes value ≡ true → v < shape .count) → P (dirState shape v number s)
-    dir-case Reserved p looked = same
-    dir-case (Valid n) p looked = off (looked (valid-decodes value n p)) (n .0)
-
     pub write-cases : (register : CpuInterfaceRegister) → (writeLooksUp register value ≡ true → v < shape .count) → P (writeRegister shape v register value s)
-    write-cases Ctlr looked = keep (looked refl) Control tt
-    write-cases Pmr looked = keep (looked refl) PriorityMask tt
-    write-cases Bpr looked = keep (looked refl) BinaryPoint tt
-    write-cases Iar looked = same
-    write-cases Eoir looked = eoi-case (decodedEoi value) refl looked
-    write-cases Rpr looked = same
-    write-cases Hppir looked = same
-    write-cases Abpr looked = keep (looked refl) BinaryPoint tt
-    write-cases Aiar looked = same
-    write-cases Aeoir looked = eoi-case (decodedEoi value) refl looked
-    write-cases Ahppir looked = same
-    write-cases Apr looked = same
-    write-cases Iidr looked = same
-    write-cases Dir looked = dir-case (decodedEoi value) refl looked
-    write-cases Other looked = same
+    write-cases =
+        each-write shape v s value (λ looksUp number r. (looksUp ≡ true → v < shape .count) → P r)
+        (λ looksUp looked. same)
+        (λ k away looked. keep (looked refl) k away)
+        (λ n looked. end (looked refl) n)
+        (λ n looked. off (looked refl) n)

@@ -7,12 +7,9 @@ use Prim.Native.Nat.{ℕ, _%_, _^_, _≤_, _<_}
 use native.Mathlib.Omega.{arith}
 use lib.Dec.{ltb}
 use borrow.Author.Tests.{ltb-true}
-use Rattle.interrupt.specs.declared.types.DecodedIntId.{DecodedIntId}
-use Rattle.interrupt.specs.declared.types.DecodedIntId.the-variants.{Valid, Reserved}
 use Rattle.register.specs.declared.frame.AccessWidth.{AccessWidth}
 use Rattle.register.specs.declared.frame.Refusal.the-variants.{Vcpu}
 use Rattle.register.specs.declared.«cpu_interface».CpuInterfaceRegister.{CpuInterfaceRegister}
-use Rattle.register.specs.declared.«cpu_interface».CpuInterfaceRegister.the-variants.{Ctlr, Pmr, Bpr, Iar, Eoir, Rpr, Hppir, Abpr, Aiar, Aeoir, Ahppir, Apr, Iidr, Dir, Other}
 use Rattle.register.specs.declared.«cpu_interface».CpuInterfaceAccess.{CpuInterfaceAccess}
 use Rattle.register.specs.declared.«cpu_interface».CpuInterfaceAccess.the-variants.{Refused, At}
 use Rattle.register.specs.CpuInterface.{locateCpuInterface}
@@ -25,8 +22,9 @@ use Rattle.state.specs.Words.{recordAt}
 use Rattle.state.proofs.Tests.{left-true}
 use Rattle.state.proofs.Validated.{validated-held}
 use Rattle.service.specs.Service.{dropped}
-use Rattle.end.specs.End.{servedHere, retired, deactivates, decodedEoi, dirRetired, endRetired, eoiRetired}
+use Rattle.end.specs.End.{servedHere, retired, deactivates, endRetired}
 use Rattle.cpu_interface.specs.CpuInterface.{writeRegister, writeRetired, writeLooksUp}
+use Rattle.delivery.proofs.Registers.{each-write}
 use Rattle.answer.specs.Answer.{refused, went, onState, absent}
 use Rattle.cpu_interface_frame.specs.CpuInterfaceFrame.{writeAccess, writeV2CpuInterface}
 
@@ -39,35 +37,17 @@ module _ (shape : Shape) (l : Limits shape) (v : ℕ) where
       go true e = let h : n < shape .limit = ltb-true n (shape .limit) (left-true (ltb n (shape .limit)) (servedHere v (recordAt shape v n s)) e) in let f : shape .limit ≤ 1020 = l .few-numbers in omega arith
       go false e = omega arith
 
-  eoi-below : (number : DecodedIntId) (s : List ℕ) → eoiRetired shape v number s < 1024
+  end-below : (n : ℕ) (s : List ℕ) → endRetired shape v n s < 1024
   unfolding endRetired
-  eoi-below Reserved s = omega arith
-  eoi-below (Valid n) s = go (deactivates shape v (n .0) s)
+  end-below n s = go (deactivates shape v n s)
     where
-      go : (b : Bool) → cond b (retired shape v (n .0) (dropped shape v (n .0) s)) 1023 < 1024
-      go true = retired-below (n .0) (dropped shape v (n .0) s)
+      go : (b : Bool) → cond b (retired shape v n (dropped shape v n s)) 1023 < 1024
+      go true = retired-below n (dropped shape v n s)
       go false = omega arith
 
-  dir-below : (number : DecodedIntId) (s : List ℕ) → dirRetired shape v number s < 1024
-  dir-below Reserved s = omega arith
-  dir-below (Valid n) s = retired-below (n .0) s
-
   write-below : (register : CpuInterfaceRegister) (value : ℕ) (s : List ℕ) → writeRetired shape v register value s < 1024
-  write-below Ctlr value s = omega arith
-  write-below Pmr value s = omega arith
-  write-below Bpr value s = omega arith
-  write-below Iar value s = omega arith
-  write-below Eoir value s = eoi-below (decodedEoi value) s
-  write-below Rpr value s = omega arith
-  write-below Hppir value s = omega arith
-  write-below Abpr value s = omega arith
-  write-below Aiar value s = omega arith
-  write-below Aeoir value s = eoi-below (decodedEoi value) s
-  write-below Ahppir value s = omega arith
-  write-below Apr value s = omega arith
-  write-below Iidr value s = omega arith
-  write-below Dir value s = dir-below (decodedEoi value) s
-  write-below Other value s = omega arith
+  write-below register value s =
+      each-write shape v s value (λ looksUp number r. number < 1024) (λ looksUp. omega arith) (λ k away. omega arith) (λ n. end-below n s) (λ n. retired-below n s) register
 
   access-below : (access : CpuInterfaceAccess) (value : ℕ) (s : List ℕ) → writeAccess shape v access value s .retired < 1024
   access-below (Refused r) value s = omega arith
