@@ -1,15 +1,16 @@
 -- A pending PPI or SPI stays pending until it is given, or until its bit is written to ICPENDR, or until the line of a level interrupt that is
 -- not active falls, or until all starts anew. Assumes nothing.
-use mathlib.Core.Path.{_≡_, refl, subst}
+use mathlib.Core.Path.{_≡_, refl}
 use mathlib.Core.Bool.{Bool, true, false, not, _&&_, true≢false}
 use mathlib.Core.List.{List}
 use mathlib.Core.Logic.{_⊎_, inl, inr}
 use Prim.Native.Nat.{ℕ, _+_, _-_, _%_, _^_, _≤_, _<_}
 use native.Mathlib.Omega.{arith}
-use lib.Dec.{eqb, leb, ltb}
-use borrow.Author.Tests.{lt-ltb, le-ltb, le-leb, eq-eqb}
+use lib.Dec.{eqb, ltb}
+use borrow.Author.Tests.{le-ltb, eq-eqb}
 use Rattle.interrupt.specs.declared.record.InterruptRecord.{InterruptRecord}
 use Rattle.interrupt.specs.Record.{fallsIdle}
+use Rattle.word.specs.Fields.{fieldAt}
 use Rattle.register.specs.declared.frame.AccessWidth.{AccessWidth}
 use Rattle.register.specs.declared.ranges.BitRegister.{BitRegister}
 use Rattle.register.specs.declared.ranges.BitRegister.the-variants.{Igroupr, Isenabler, Icenabler, Ispendr, Icpendr, Isactiver, Icactiver, Icfgr}
@@ -20,7 +21,6 @@ use Rattle.register.specs.declared.distributor.DistributorAccess.{DistributorAc
 use Rattle.register.specs.declared.distributor.DistributorAccess.the-variants as distributor
 use Rattle.register.specs.CpuInterface.{locateCpuInterface}
 use Rattle.register.specs.Distributor.{locateDistributor}
-use Rattle.word.specs.Fields.{fieldAt}
 use Rattle.state.specs.declared.layout.Shape.{Shape}
 use Rattle.state.specs.declared.words.Entry.{Entry}
 use Rattle.state.specs.Words.{recordSlot, RecordThere, recordAt}
@@ -31,7 +31,7 @@ use Rattle.moves.specs.Moves.{Change, SetEnabled, SetPending, SetActive, Cancel
 use Rattle.history.specs.History.{Call, called, run}
 use Rattle.history.proofs.Made.{BitMade, ClassMade, PlaceMade, Ends, WriteMade}
 use Rattle.waiting.specs.Waiting.{pends, meets, gives, isIcpendr, among, clearsPendingAt, takesPending, never}
-use Rattle.waiting.proofs.Keeping.{handedOut, handingOut, Waits, call-keeps, history-controls, history-keeps}
+use Rattle.waiting.proofs.Keeping.{run-at, handedOut, handingOut, Waits, call-keeps, history-controls, history-keeps}
 use Rattle.waiting.proofs.PendingMoves.{SparesRecord, met, Spares, move-pends}
 
 module _ (shape : Shape) (v n : ℕ) (there : RecordThere shape v n) (no-sgi : 16 ≤ n) where
@@ -40,11 +40,8 @@ module _ (shape : Shape) (v n : ℕ) (there : RecordThere shape v n) (no-sgi : 1
     icpendr-spares : (first at : ℕ) → at < 32 → eqb (fieldAt 1 at value) 1 ≡ true → (meets v n u && (among n first 32 && eqb (fieldAt 1 (n - first) value) 1)) ≡ false
         → recordSlot v n ≡ recordSlot u (first + at) → ⊥
     icpendr-spares first at inside field e p =
-        let q : first + at ≡ n = met v n u (first + at) p .number in
-        let here : n - first ≡ at = omega (arith, q) in
-        let low : leb first n ≡ true = le-leb first n (omega (arith, q)) in
-        let high : ltb n (first + 32) ≡ true = lt-ltb n (first + 32) (omega (arith, q, inside)) in
-        true≢false (simp (met v n u (first + at) p .meeting, low, high, here, field) at e)
+        let here = run-at n first at 32 inside (met v n u (first + at) p .number) in
+        true≢false (simp (met v n u (first + at) p .meeting, here .0, here .1, field) at e)
 
     active-spares : (c : Change) → (c ≡ SetActive false) ⊎ (c ≡ CancelInflight) → SparesRecord c (recordAt shape v n s)
     active-spares c (inl makes) = rw makes tt
@@ -105,14 +102,13 @@ module _ (shape : Shape) (v n : ℕ) (there : RecordThere shape v n) (no-sgi : 1
   write-spares u (Popped w) made s = tt
 
   -- a read that answers another number
-  read-spares : (s : List ℕ) (u offset : ℕ) (width : AccessWidth) (e : Entry) → gives (handedOut shape u e s) (locateCpuInterface offset width) (handingOut shape u e s) ≡ true
+  read-spares : (s : List ℕ) (u offset : ℕ) (width : AccessWidth) (e : Entry)
+      → ((x : ℕ) → handedOut shape u e s ≡ x → gives x (locateCpuInterface offset width) (handingOut shape u e s) ≡ true)
       → (meets v n u && gives n (locateCpuInterface offset width) (handingOut shape u e s)) ≡ false → Spares shape v n (Given u e) s
   unfolding sourceOf
   read-spares s u offset width e given free p =
-      let is : handedOut shape u e s ≡ n = rw (met v n u (e .intid .0) p .number) (simp (le-ltb n 16 no-sgi) (omega arith)) in
-      let this : gives n (locateCpuInterface offset width) (handingOut shape u e s) ≡ true =
-      subst (λ (x : ℕ). gives x (locateCpuInterface offset width) (handingOut shape u e s) ≡ true) is given in
-      true≢false (simp (met v n u (e .intid .0) p .meeting, this) at free)
+      let at = met v n u (e .intid .0) p in
+      true≢false (simp (at .meeting, given n (rw (at .number) (simp (le-ltb n 16 no-sgi) (omega arith)))) at free)
 
   -- a line that does not fall, or that of an interrupt which is active or edge
   level-spares : (s : List ℕ) (u m : ℕ) (asserted : Bool) → (meets v n u && eqb m n && fallsIdle (recordAt shape v n s) asserted) ≡ false → Spares shape v n (Changed u m (SetLevel asserted)) s
@@ -135,5 +131,6 @@ module _ (shape : Shape) (v n : ℕ) (there : RecordThere shape v n) (no-sgi : 1
   pub a-pulse-waits : (cs : List Call) (s : List ℕ) → Controls shape s → pends shape v n s ≡ true → never (takesPending shape v n) cs s ≡ true → pends shape v n (run cs s) ≡ true
   a-pulse-waits = history-keeps pending-waits
 
-  pub pulse-controls : (cs : List Call) (s : List ℕ) → Controls shape s → never (takesPending shape v n) cs s ≡ true → Controls shape (run cs s)
-  pulse-controls = history-controls pending-waits
+-- .. in a controller of the same count and limit
+pub pulse-controls : (shape : Shape) (v n : ℕ) (cs : List Call) (s : List ℕ) → Controls shape s → never (takesPending shape v n) cs s ≡ true → Controls shape (run cs s)
+pulse-controls shape v n = history-controls (takesPending shape v n) (λ s count limit o. refl)

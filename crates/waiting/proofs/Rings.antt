@@ -1,12 +1,14 @@
 -- A ring of an SGI stays until it is given, or until its target writes it to CPENDSGIR, or until all starts anew. Assumes nothing.
-use mathlib.Core.Path.{_≡_, refl, subst}
+use mathlib.Core.Path.{_≡_, refl}
 use mathlib.Core.Bool.{Bool, true, false, _&&_, true≢false}
 use mathlib.Core.List.{List}
 use mathlib.Core.Logic.{inl, inr}
 use Prim.Native.Nat.{ℕ, _+_, _*_, _-_, _%_, _^_, _<_}
 use native.Mathlib.Omega.{arith}
-use lib.Dec.{eqb, leb, ltb}
-use borrow.Author.Tests.{lt-ltb, le-leb, eq-eqb}
+use lib.Dec.{eqb}
+use borrow.Author.Tests.{lt-ltb, eq-eqb}
+use Rattle.word.specs.Fields.{fieldAt}
+use Rattle.word.proofs.Cases.{same-or}
 use Rattle.register.specs.declared.frame.AccessWidth.{AccessWidth}
 use Rattle.register.specs.declared.ranges.ByteRegister.the-variants.{Ipriorityr, Itargetsr, Cpendsgir, Spendsgir}
 use Rattle.register.specs.declared.ranges.Class.{Class}
@@ -16,14 +18,13 @@ use Rattle.register.specs.declared.distributor.DistributorAccess.the-variants a
 use Rattle.register.specs.CpuInterface.{locateCpuInterface}
 use Rattle.register.specs.Distributor.{locateDistributor}
 use Rattle.register.specs.Frame.{bytes}
-use Rattle.word.specs.Fields.{fieldAt}
-use Rattle.word.proofs.Cases.{same-or}
 use Rattle.state.specs.declared.layout.Shape.{Shape}
 use Rattle.state.specs.declared.words.Entry.{Entry}
 use Rattle.state.specs.Layout.{DistributorControl, Interface, Sources}
 use Rattle.state.specs.Words.{sourcesAt}
 use Rattle.state.proofs.Numbers.{Of}
 use Rattle.state.proofs.SlotKinds.{kinds-apart, apart-record}
+use Rattle.sgi.specs.Sgi.{mergedSources}
 use Rattle.acknowledge.specs.Acknowledge.{lowestSource, sourceOf}
 use Rattle.delivery.proofs.Given.{given-sources}
 use Rattle.lawful.specs.Lawful.{Controls}
@@ -32,10 +33,9 @@ use Rattle.moves.proofs.Controllers.{sourced-sources}
 use Rattle.moves.proofs.Slots.{Touches, givable, move-others}
 use Rattle.history.specs.History.{Call, called, run}
 use Rattle.history.proofs.Made.{ClassMade, PlaceMade, WriteMade}
-use Rattle.sgi.specs.Sgi.{mergedSources}
 use Rattle.waiting.specs.Waiting.{bit, rung, gives, isCpendsgir, among, clearsSourceAt, takesRing, never}
 use Rattle.waiting.proofs.BitLaws.{bit-below, bit-or, bit-cleared, bit-left}
-use Rattle.waiting.proofs.Keeping.{handedOut, handingOut, Waits, call-keeps, history-controls, history-keeps}
+use Rattle.waiting.proofs.Keeping.{run-at, handedOut, handingOut, Waits, call-keeps, history-controls, history-keeps}
 
 module _ (shape : Shape) (t n u : ℕ) (exists : t < shape .count) (sgi : n < 16) where
   -- a move that leaves the ring: it clears no bit of it, and gives no SGI with it
@@ -97,10 +97,8 @@ module _ (shape : Shape) (t n u : ℕ) (exists : t < shape .count) (sgi : n < 16
     byte-spares : (first at : ℕ) → at < bytes width → (eqb v t && (among n first (bytes width) && bit u (fieldAt 8 (n - first) value))) ≡ false
         → Spares (Sourced v (first + at) false (fieldAt 8 at value)) s
     byte-spares first at inside e p q =
-        let here : n - first ≡ at = omega (arith, q) in
-        let low : leb first n ≡ true = le-leb first n (omega (arith, q)) in
-        let high : ltb n (first + bytes width) ≡ true = lt-ltb n (first + bytes width) (omega (arith, q, inside)) in
-        simp (eq-eqb v t p, low, high, here) at e
+        let here = run-at n first at (bytes width) inside q in
+        simp (eq-eqb v t p, here .0, here .1) at e
 
     class-spares : (c : Class) (first : ℕ) → (eqb v t && (isCpendsgir c && among n first (bytes width) && bit u (fieldAt 8 (n - first) value))) ≡ false
         → ClassMade shape v c first width value m → Spares m s
@@ -130,14 +128,12 @@ module _ (shape : Shape) (t n u : ℕ) (exists : t < shape .count) (sgi : n < 16
   write-spares v (Popped w) made s = tt
 
   -- a read that answers another number, or this one with another source
-  read-spares : (s : List ℕ) (v offset : ℕ) (width : AccessWidth) (e : Entry) → gives (handedOut shape v e s) (locateCpuInterface offset width) (handingOut shape v e s) ≡ true
+  read-spares : (s : List ℕ) (v offset : ℕ) (width : AccessWidth) (e : Entry)
+      → ((x : ℕ) → handedOut shape v e s ≡ x → gives x (locateCpuInterface offset width) (handingOut shape v e s) ≡ true)
       → (eqb v t && gives (n + 1024 * u) (locateCpuInterface offset width) (handingOut shape v e s)) ≡ false → Spares (Given v e) s
   unfolding sourceOf
   read-spares s v offset width e given free p q lowest =
-      let is : handedOut shape v e s ≡ n + 1024 * u = rw (p, q) (simp (lt-ltb n 16 sgi, lowest) refl) in
-      let this : gives (n + 1024 * u) (locateCpuInterface offset width) (handingOut shape v e s) ≡ true =
-      subst (λ (x : ℕ). gives x (locateCpuInterface offset width) (handingOut shape v e s) ≡ true) is given in
-      true≢false (simp (eq-eqb v t p, this) at free)
+      true≢false (simp (eq-eqb v t p, given (n + 1024 * u) (rw (p, q) (simp (lt-ltb n 16 sgi, lowest) refl))) at free)
 
   ring-waits : Waits shape (rung shape t n u) (λ r. takesRing t n u) Spares
   ring-waits = record {
@@ -156,6 +152,6 @@ module _ (shape : Shape) (t n u : ℕ) (exists : t < shape .count) (sgi : n < 16
   pub a-ring-waits : (cs : List Call) (s : List ℕ) → Controls shape s → rung shape t n u s ≡ true → never (λ r. takesRing t n u) cs s ≡ true → rung shape t n u (run cs s) ≡ true
   a-ring-waits = history-keeps ring-waits
 
-  -- .. in a controller of the same count and limit
-  pub ring-controls : (cs : List Call) (s : List ℕ) → Controls shape s → never (λ r. takesRing t n u) cs s ≡ true → Controls shape (run cs s)
-  ring-controls = history-controls ring-waits
+-- .. in a controller of the same count and limit
+pub ring-controls : (shape : Shape) (t n u : ℕ) (cs : List Call) (s : List ℕ) → Controls shape s → never (λ r. takesRing t n u) cs s ≡ true → Controls shape (run cs s)
+ring-controls shape t n u = history-controls (λ r. takesRing t n u) (λ s count limit o. refl)
