@@ -51,7 +51,7 @@ module _ (count limit : ℕ) (s : List ℕ) (P : Outcome → Type 0)
       go true e = starts (fresh-controls own s (record { limits = subst Rattle.state.specs.Layout.Limits same (limited-limits count limit shape p); room = leb-true (size own) (length s) e }))
       go false e = refuses (refused ShortState s) (few (omega arith)) (λ q. absurd (omega (arith, q))) refl
 
-  setup-cases : P (called (Setup count limit) s)
+  pub setup-cases : P (called (Setup count limit) s)
   unfolding setup
   setup-cases = fits (limited count limit) refl
 

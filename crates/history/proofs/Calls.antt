@@ -76,7 +76,7 @@ module _ (shape : Shape) (s : List ℕ) (h : Controls shape s) where
       Iar looked
 
   -- a write to a CPU interface
-  write-chain : (v value : ℕ) (register : CpuInterfaceRegister) → (interface-looks.writeLooksUp register value ≡ true → v < shape .count)
+  pub write-chain : (v value : ℕ) (register : CpuInterfaceRegister) → (interface-looks.writeLooksUp register value ≡ true → v < shape .count)
       → Chain shape (WriteMade v) s (interface-looks.writeRegister shape v register value s)
   write-chain v value register looked =
       write-cases shape v s (Chain shape (WriteMade v) s) none value
@@ -87,7 +87,7 @@ module _ (shape : Shape) (s : List ℕ) (h : Controls shape s) where
       (λ exists n. deactivated-chain shape v n s exists)
       register looked
 
-  distributor-chain : (v : ℕ) (width : AccessWidth) (value : ℕ) (place : Place) (a : DistributorAccess) → a ≡ distributor.At place → places.PlaceWritten shape v place width value s
+  pub distributor-chain : (v : ℕ) (width : AccessWidth) (value : ℕ) (place : Place) (a : DistributorAccess) → a ≡ distributor.At place → places.PlaceWritten shape v place width value s
       → Chain shape (PlaceMade shape v a width value) s (places.writePlace shape v place width value s)
   distributor-chain v width value place a p at =
       subst (λ (x : DistributorAccess). Chain shape (PlaceMade shape v x width value) s (places.writePlace shape v place width value s)) (sym p) (place-chain shape v width value s h place at)

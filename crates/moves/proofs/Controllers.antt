@@ -62,7 +62,7 @@ topOf e [] = e
 topOf e (x ∷ xs) = x
 
 -- a record is on no stack
-record-off-stack : (v u n : ℕ) → StackOf v (recordSlot u n) → ⊥
+pub record-off-stack : (v u n : ℕ) → StackOf v (recordSlot u n) → ⊥
 unfolding recordSlot
 record-off-stack v u n = go (ltb n 32)
   where
@@ -122,7 +122,7 @@ module _ (shape : Shape) (s : List ℕ) (h : Lawful shape s) where
     slot : Exists shape (recordSlot v n)
     slot = record-exists shape v n (o .there)
 
-    changed-record : recordAt shape v n (moved shape (Changed v n c) s) ≡ becomes c (recordAt shape v n s)
+    pub changed-record : recordAt shape v n (moved shape (Changed v n c) s) ≡ becomes c (recordAt shape v n s)
     changed-record =
         record-same shape s v n (becomes c (recordAt shape v n s)) room slot
         (change-in-range shape v n (recordAt shape v n s) (room .limits) c (o .fits) (decoded-in-range (wordAt shape (recordSlot v n) s)))
@@ -161,7 +161,7 @@ module _ (shape : Shape) (s : List ℕ) (h : Lawful shape s) where
         both-record shape v n s (h .in-range .state) (o .exists, o .sgi) sources below (λ r. setPending r (not (eqb sources 0)))
         (pended shape v n s (h .in-range .state) (o .exists, o .sgi) (not (eqb sources 0)))
 
-    sourced-sources : sourcesAt shape v n sourced ≡ sources
+    pub sourced-sources : sourcesAt shape v n sourced ≡ sources
     sourced-sources =
         both-sources shape v n s (h .in-range .state) (o .exists, o .sgi) sources below (λ r. setPending r (not (eqb sources 0)))
         (pended shape v n s (h .in-range .state) (o .exists, o .sgi) (not (eqb sources 0)))

@@ -1,0 +1,143 @@
+-- What holds of a state until a call takes it, whatever it is: if each move that spares it keeps it, and the moves of each call that does not
+-- take it spare it, then it holds after every history that never takes it. Assumes nothing.
+use mathlib.Core.Path.{_≡_, refl, sym, subst, _∙_}
+use mathlib.Core.Bool.{Bool, true, false, not, true≢false}
+use mathlib.Core.List.{List, [], _∷_}
+use Prim.Native.Nat.{ℕ, _+_, _*_, _-_, _%_, _^_, _<_}
+use native.Mathlib.Omega.{arith}
+use lib.Dec.{eqb}
+use borrow.Author.Tests.{not-true, eq-eqb, le-leb, lt-ltb}
+use Rattle.register.specs.declared.frame.AccessWidth.{AccessWidth}
+use Rattle.register.specs.declared.«cpu_interface».CpuInterfaceRegister.{CpuInterfaceRegister}
+use Rattle.register.specs.declared.«cpu_interface».CpuInterfaceAccess.the-variants as interface
+use Rattle.register.specs.CpuInterface.{locateCpuInterface}
+use Rattle.register.specs.Distributor.{locateDistributor}
+use Rattle.state.specs.declared.layout.Shape.{Shape}
+use Rattle.state.specs.declared.words.Entry.{Entry}
+use Rattle.state.specs.Words.{enabledAt, interfaceAt}
+use Rattle.state.proofs.Tests.{left-true, right-true}
+use Rattle.state.specs.declared.layout.InterfaceValue.the-variants.{Control}
+use Rattle.state.specs.Fresh.{fresh}
+use Rattle.state.specs.Lent.{shaped}
+use Rattle.select.specs.declared.Selected.{Selected}
+use Rattle.select.specs.declared.Selected.the-variants.{Best, Nothing}
+use Rattle.acknowledge.specs.Acknowledge.{offer, sourceOf, given, acknowledge, acknowledged}
+use Rattle.acknowledge.proofs.Offers.{offer-is}
+use Rattle.acknowledge.specs.declared.Read.{Read}
+use Rattle.acknowledge.specs.declared.Read.the-variants.{Value, StackFull}
+use Rattle.cpu_interface.specs.CpuInterface.{acknowledging}
+use Rattle.delivery.proofs.Answers.{acknowledge-is, acknowledged-is, none-unchanged}
+use Rattle.answer.specs.Answer.{Outcome, gave}
+use Rattle.cpu_interface_frame.specs.CpuInterfaceFrame.{readAnswer}
+use Rattle.lawful.specs.Lawful.{Controls}
+use Rattle.lawful.proofs.Depths.{offer-room}
+use Rattle.moves.specs.Moves as moves
+use Rattle.moves.specs.Moves.{Move, Changed, Given, moved, Open, Chain}
+use Rattle.moves.proofs.Controllers.{chain-keeps}
+use Rattle.moves.proofs.Slots.{served}
+use Rattle.history.specs.History.{Call, Setup, WriteDistributor, ReadCpuInterface, SetLevel, isSetup, called, run}
+use Rattle.history.proofs.Always.{setup-cases, every-other-call}
+use Rattle.history.proofs.Calls.{write-chain, distributor-chain}
+use Rattle.history.proofs.Each.{setup-or-other, each-call}
+use Rattle.history.proofs.Made.{PlaceMade, WriteMade}
+use Rattle.waiting.specs.Waiting.{gives, among, never}
+
+-- a number of a run, by its place there
+pub run-at : (n first at count : ℕ) → at < count → first + at ≡ n → (among n first count ≡ true) × (n - first ≡ at)
+run-at n first at count inside p = (simp (le-leb first n (omega (arith, p)), lt-ltb n (first + count) (omega (arith, p, inside))), omega (arith, p))
+
+-- what an acknowledge answers that gives v this interrupt, and what it comes to
+abbrev pub handedOut : Shape → ℕ → Entry → List ℕ → ℕ
+handedOut shape v e s = e .intid .0 + 1024 * sourceOf shape v (e .intid .0) s
+
+abbrev pub handingOut : Shape → ℕ → Entry → List ℕ → Outcome
+handingOut shape v e s = gave (handedOut shape v e s) (given shape v e s)
+
+-- what takes something away whenever all starts anew
+abbrev pub Anew : (List ℕ → Call → Outcome → Bool) → Type 0
+Anew takes = (s : List ℕ) (count limit : ℕ) (o : Outcome) → takes s (Setup count limit) o ≡ eqb (o .refusal) 0
+
+-- a history that never takes it ends in a controller of the same count and limit
+module _ (takes : List ℕ → Call → Outcome → Bool) (anew : Anew takes) where
+  -- a setup that does not take it is refused, and changes nothing
+  refused-setup : (P : List ℕ → Type 0) (s : List ℕ) → P s → (count limit : ℕ) → takes s (Setup count limit) (called (Setup count limit) s) ≡ false → P (called (Setup count limit) s .state)
+  refused-setup P s p count limit =
+      setup-cases count limit s (λ o. takes s (Setup count limit) o ≡ false → P (o .state)) (λ o ordinary no same e. subst P (sym same) p)
+      (λ controls e. absurd (true≢false (sym (anew s count limit (gave 0 (fresh (shaped count limit) s))) ∙ e)))
+
+  pub call-controls : {shape : Shape} (c : Call) (s : List ℕ) → Controls shape s → takes s c (called c s) ≡ false → Controls shape (called c s .state)
+  call-controls {shape} c s h =
+      setup-or-other (λ d. takes s d (called d s) ≡ false → Controls shape (called d s .state)) (refused-setup (Controls shape) s h) (λ d other e. every-other-call shape d other s h) c
+
+  spared : (c : Call) (cs : List Call) (s : List ℕ) → never takes (c ∷ cs) s ≡ true → takes s c (called c s) ≡ false
+  spared c cs s e = not-true (takes s c (called c s)) (left-true (not (takes s c (called c s))) (never takes cs (called c s .state)) e)
+
+  later : (c : Call) (cs : List Call) (s : List ℕ) → never takes (c ∷ cs) s ≡ true → never takes cs (called c s .state) ≡ true
+  later c cs s e = right-true (not (takes s c (called c s))) (never takes cs (called c s .state)) e
+
+  pub history-controls : {shape : Shape} (cs : List Call) (s : List ℕ) → Controls shape s → never takes cs s ≡ true → Controls shape (run cs s)
+  unfolding run
+  history-controls [] s h e = h
+  history-controls (c ∷ cs) s h e = history-controls cs (called c s .state) (call-controls c s h (spared c cs s e)) (later c cs s e)
+
+-- all that is asked of what waits in controllers of this shape: `holds` of a state, `takes` of a call in a state, `Spares` of a move in a state
+pub record Waits (shape : Shape) (holds : List ℕ → Bool) (takes : List ℕ → Call → Outcome → Bool) (Spares : Move → List ℕ → Type 0) : Type 0 where
+  pub kept : (m : Move) (s : List ℕ) → Controls shape s → Open shape m s → Spares m s → holds s ≡ true → holds (moved shape m s) ≡ true
+  pub anew : Anew takes
+  pub read : (s : List ℕ) (v offset : ℕ) (width : AccessWidth) (e : Entry)
+      → ((x : ℕ) → handedOut shape v e s ≡ x → gives x (locateCpuInterface offset width) (handingOut shape v e s) ≡ true)
+      → takes s (ReadCpuInterface v offset width) (handingOut shape v e s) ≡ false → Spares (Given v e) s
+  pub ended : (v : ℕ) (m : Move) → WriteMade v m → (r : List ℕ) → Spares m r
+  pub written : (s : List ℕ) (v offset : ℕ) (width : AccessWidth) (value : ℕ) {o : Outcome} → takes s (WriteDistributor v offset width value) o ≡ false
+      → (m : Move) → PlaceMade shape v (locateDistributor offset width) width (value % 2 ^ 32) m → (r : List ℕ) → Spares m r
+  pub levelled : (s : List ℕ) (v n : ℕ) (asserted : Bool) {o : Outcome} → takes s (SetLevel v n asserted) o ≡ false → Spares (Changed v n (moves.SetLevel asserted)) s
+  pub pulsed : (s : List ℕ) (v n : ℕ) → Spares (Changed v n moves.Pulse) s
+
+module _ {shape : Shape} {holds : List ℕ → Bool} {takes : List ℕ → Call → Outcome → Bool} {Spares : Move → List ℕ → Type 0} (w : Waits shape holds takes Spares) where
+  module _ (s : List ℕ) (h : Controls shape s) (now : holds s ≡ true) where
+    -- a call that comes to this takes it, or it holds
+    abbrev Keeps : Call → Outcome → Type 0
+    Keeps c o = takes s c o ≡ false → holds (o .state) ≡ true
+
+    chained : {May : Move → Type 0} {r : List ℕ} → ((m : Move) → May m → (t : List ℕ) → Spares m t) → Chain shape May s r → holds r ≡ true
+    chained spares c = chain-keeps (λ t. holds t ≡ true) (λ m t may o controls p. w .kept m t controls o (spares m may t) p) c h now
+
+    -- an acknowledge gives something, or changes nothing
+    acknowledges : (v offset : ℕ) (width : AccessWidth) (register : CpuInterfaceRegister) → locateCpuInterface offset width ≡ interface.At register → acknowledging register ≡ true
+        → (enabledAt shape s ≡ true → v < shape .count) → Keeps (ReadCpuInterface v offset width) (readAnswer (acknowledge shape v s) s (acknowledged shape v s))
+    acknowledges v offset width register at is looked = go (offer shape v s) refl
+      where
+        c : Call
+        c = ReadCpuInterface v offset width
+
+        still : (a : Read) → Keeps c (readAnswer a s s)
+        still (Value x) e = now
+        still StackFull e = now
+
+        go : (b : Selected) → offer shape v s ≡ b → Keeps c (readAnswer (acknowledge shape v s) s (acknowledged shape v s))
+        go Nothing p = rw (none-unchanged shape v s p) (still (acknowledge shape v s))
+        go (Best e) p =
+            let exists : v < shape .count = looked (left-true (enabledAt shape s) (eqb (interfaceAt shape v Control s % 2) 1) (offer-is shape v s e p .on)) in
+            let here = served shape s (h .lawful) v exists in
+            let room = offer-room shape v s (h .lawful .orderly) exists e p in
+            rw (acknowledge-is shape v s here e p room, acknowledged-is shape v s here e p room)
+            (λ q. w .kept (Given v e) s h (record { exists = exists; offered = p }) (w .read s v offset width e (λ x same. rw (at, is) (eq-eqb (handedOut shape v e s) x same)) q) now)
+
+    other-stays : (c : Call) → isSetup c ≡ false → Keeps c (called c s)
+    other-stays =
+        each-call shape s h Keeps (λ c r x e. now) (λ c x e. now) acknowledges
+        (λ v offset width value register looked e. chained (w .ended v) (write-chain shape s h v (value % 2 ^ 32) register looked))
+        (λ v offset width value place p at e. chained (w .written s v offset width value e) (distributor-chain shape s h v width (value % 2 ^ 32) place (locateDistributor offset width) p at))
+        (λ v n asserted there past e. w .kept (Changed v n (moves.SetLevel asserted)) s h (record { there = there; fits = past }) (w .levelled s v n asserted e) now)
+        (λ v n there past e. w .kept (Changed v n moves.Pulse) s h (record { there = there; fits = past }) (w .pulsed s v n) now)
+
+  -- one call
+  pub call-keeps : (c : Call) (s : List ℕ) → Controls shape s → holds s ≡ true → takes s c (called c s) ≡ false → holds (called c s .state) ≡ true
+  call-keeps c s h now =
+      setup-or-other (λ d. takes s d (called d s) ≡ false → holds (called d s .state) ≡ true) (refused-setup takes (w .anew) (λ r. holds r ≡ true) s now) (other-stays s h now) c
+
+  pub history-keeps : (cs : List Call) (s : List ℕ) → Controls shape s → holds s ≡ true → never takes cs s ≡ true → holds (run cs s) ≡ true
+  unfolding run
+  history-keeps [] s h now e = now
+  history-keeps (c ∷ cs) s h now e =
+      history-keeps cs (called c s .state) (call-controls takes (w .anew) c s h (spared takes (w .anew) c cs s e)) (call-keeps c s h now (spared takes (w .anew) c cs s e)) (later takes (w .anew) c cs s e)

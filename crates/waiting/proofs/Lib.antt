@@ -1,0 +1,6 @@
+-- What waits stays until a call takes it.
+pub mod BitLaws
+pub mod Keeping
+pub mod PendingMoves
+pub mod Pends
+pub mod Rings
