@@ -1,11 +1,10 @@
 -- What the calls of the stories come to in a controller: a ring, an acknowledge, an end, a pulse. Assumes nothing.
-use mathlib.Core.Path.{_≡_, refl, sym, ap, subst, _∙_}
-use mathlib.Core.Bool.{Bool, true, false, cond, _&&_, false≢true, true≢false}
+use mathlib.Core.Path.{_≡_, refl, ap, _∙_}
+use mathlib.Core.Bool.{Bool, true, false, false≢true}
 use mathlib.Core.List.{List}
-use Prim.Native.Nat.{ℕ, _+_, _*_, _%_, _^_, _≤_, _<_}
-use native.Mathlib.Nat.{mod-eq-of-lt}
+use Prim.Native.Nat.{ℕ, _%_, _^_, _≤_, _<_}
 use native.Mathlib.Omega.{arith}
-use lib.Dec.{eqb, leb, ltb}
+use lib.Dec.{ltb}
 use borrow.Author.Tests.{ltb-true, lt-ltb, le-leb, lt-leb, eq-eqb}
 use Rattle.interrupt.specs.declared.types.DecodedIntId.the-variants.{Valid}
 use Rattle.interrupt.specs.Record as record-of
@@ -27,8 +26,8 @@ use Rattle.acknowledge.specs.declared.Read.{Read}
 use Rattle.acknowledge.specs.declared.Read.the-variants.{Value, StackFull}
 use Rattle.acknowledge.specs.Acknowledge as acknowledge-of
 use Rattle.end.specs.End as end-of
-use Rattle.places.specs.Places.{names, sends}
-use Rattle.answer.specs.Answer.{Outcome, gave, went, absent}
+use Rattle.places.specs.Places.{names}
+use Rattle.answer.specs.Answer.{went, absent}
 use Rattle.distributor_frame.specs.DistributorFrame.{writeV2Distributor}
 use Rattle.cpu_interface_frame.specs.CpuInterfaceFrame.{readAnswer, readV2CpuInterface, writeV2CpuInterface}
 use Rattle.input.specs.Input.{inputOf, deviceInput}

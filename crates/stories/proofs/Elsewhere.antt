@@ -1,9 +1,9 @@
 -- Calls elsewhere leave the SGI n at t, its enabling and t's stack as they were: none of their moves touches a slot of these. Assumes nothing.
-use mathlib.Core.Path.{_≡_, refl, sym, ap, subst, _∙_}
+use mathlib.Core.Path.{_≡_, refl, sym, subst, _∙_}
 use mathlib.Core.Bool.{Bool, true, false, not, cond, _&&_, false≢true, true≢false}
 use mathlib.Core.List.{List, [], _∷_}
-use mathlib.Core.Logic.{_⊎_, inl, inr}
-use Prim.Native.Nat.{ℕ, _+_, _%_, _^_, _≤_, _<_}
+use mathlib.Core.Logic.{inl, inr}
+use Prim.Native.Nat.{ℕ, _+_, _%_, _^_, _<_}
 use native.Mathlib.Omega.{arith}
 use lib.Dec.{eqb, ltb}
 use borrow.Author.Tests.{eqb-false, eq-eqb, not-true}
@@ -15,7 +15,6 @@ use Rattle.register.specs.declared.ranges.Class.the-variants.{Ctlr, Typer, Iidr
 use Rattle.register.specs.declared.distributor.DistributorAccess.{DistributorAccess}
 use Rattle.register.specs.declared.distributor.DistributorAccess.the-variants.{Refused, PrivateWidth, At}
 use Rattle.register.specs.Distributor.{locateDistributor}
-use Rattle.register.specs.Frame.{bytes}
 use Rattle.word.specs.Fields.{fieldAt}
 use Rattle.state.specs.declared.layout.Shape.{Shape}
 use Rattle.state.specs.declared.layout.InterfaceValue.the-variants.{Control, PriorityMask, BinaryPoint, Depth}
@@ -25,7 +24,6 @@ use Rattle.state.proofs.Steps.{Agree}
 use Rattle.state.proofs.Tests.{left-true, right-true}
 use Rattle.sgi.specs.Sgi.{sgiTarget, includes}
 use Rattle.lawful.specs.Lawful.{Controls}
-use Rattle.moves.specs.Moves as moves
 use Rattle.moves.specs.Moves.{Move, Changed, Sourced, Kept, Switched, Given, Popped, Open}
 use Rattle.moves.proofs.Controllers.{chain-keeps}
 use Rattle.moves.proofs.Slots.{StackOf, Touches, move-others}

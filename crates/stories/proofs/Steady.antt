@@ -1,24 +1,21 @@
 -- What keeps the enabling of the SGI n at t, its enable bit and its priority: calls elsewhere, rings, the giving and the end. With the same stack
 -- and the SGI not active, t can still take it. Assumes nothing.
-use mathlib.Core.Path.{_≡_, refl, sym, ap, subst, _∙_}
-use mathlib.Core.Bool.{Bool, true, false, cond}
-use mathlib.Core.List.{List, _∷_}
-use mathlib.Core.Logic.{inl, inr}
-use Prim.Native.Nat.{ℕ, _%_, _^_, _≤_, _<_}
+use mathlib.Core.Path.{_≡_, refl, ap, _∙_}
+use mathlib.Core.Bool.{false}
+use mathlib.Core.List.{List}
+use Prim.Native.Nat.{ℕ, _%_, _≤_, _<_}
 use native.Mathlib.Omega.{arith}
 use borrow.Author.Tests.{lt-ltb}
 use Rattle.interrupt.specs.declared.record.InterruptRecord.{InterruptRecord}
 use Rattle.word.specs.Word.{recordOf}
 use Rattle.state.specs.declared.layout.Shape.{Shape}
 use Rattle.state.specs.declared.layout.InterfaceValue.the-variants.{Control, PriorityMask, BinaryPoint, Depth}
-use Rattle.state.specs.declared.words.Entry.{Entry}
-use Rattle.state.specs.Layout.{Slot, Count, Limit, DistributorControl, Interface, Sources, Private, Spi, Stack, Exists}
-use Rattle.state.specs.Words.{wordAt, recordSlot, RecordThere, recordAt, sourcesAt, interfaceAt}
+use Rattle.state.specs.Layout.{Slot, Count, Limit, DistributorControl, Interface, Sources, Private, Spi, Stack}
+use Rattle.state.specs.Words.{wordAt, recordSlot, RecordThere, recordAt, sourcesAt}
 use Rattle.state.proofs.Accessors.{record-exists}
-use Rattle.state.proofs.Numbers.{Of}
 use Rattle.state.proofs.Steps.{Agree}
 use Rattle.select.specs.Select.{bothOn}
-use Rattle.service.specs.Service.{depthAt, stackAt, runningOf, running}
+use Rattle.service.specs.Service.{depthAt, stackAt}
 use Rattle.service.proofs.Stacks.{stack-same}
 use Rattle.end.specs.End.{eoiMode}
 use Rattle.stories.specs.Stories.{Takes}

@@ -1,22 +1,21 @@
 -- An interrupt whose turn it is at a vCPU is what an acknowledge hands out; a vCPU that has one that it can take is not quiet. Assumes nothing.
-use mathlib.Core.Path.{_≡_, refl, sym, ap, subst, _∙_}
-use mathlib.Core.Bool.{Bool, true, false, cond, _&&_, _||_, false≢true, true≢false}
+use mathlib.Core.Path.{_≡_, refl, sym, ap, _∙_}
+use mathlib.Core.Bool.{Bool, true, false, _&&_, _||_, true≢false}
 use mathlib.Core.List.{List}
-use Prim.Native.Nat.{ℕ, _+_, _*_, _/_, _%_, _^_, _≤_, _<_}
+use Prim.Native.Nat.{ℕ, _+_, _*_, _/_, _%_, _^_, _<_}
 use native.Mathlib.Nat.{one-mul}
-use native.Mathlib.Omega.{arith}
-use lib.Dec.{eqb, leb, ltb}
-use borrow.Author.Tests.{lt-ltb, ltb-true, ltb-false, eq-eqb}
+use lib.Dec.{eqb, ltb}
+use borrow.Author.Tests.{lt-ltb, ltb-false, eq-eqb}
 use Rattle.word.specs.Fields.{gathered}
 use Rattle.word.specs.Word.{bitOf}
 use Rattle.word.proofs.Gathered.{gathered-field}
-use Rattle.word.proofs.RecordWord.{bit-fits, bit-back}
+use Rattle.word.proofs.RecordWord.{bit-fits}
 use Rattle.state.specs.declared.layout.Shape.{Shape}
 use Rattle.state.specs.declared.words.Entry.{Entry}
 use Rattle.state.specs.Words.{recordAt}
 use Rattle.select.specs.declared.Selected.{Selected}
 use Rattle.select.specs.declared.Selected.the-variants.{Best, Nothing}
-use Rattle.select.specs.Select.{candidate, entryFor, best, IsBest}
+use Rattle.select.specs.Select.{candidate, entryFor, IsBest}
 use Rattle.select.proofs.Meaning.{is-best}
 use Rattle.service.specs.Service.{depthAt}
 use Rattle.acknowledge.specs.Acknowledge as acknowledge-of
@@ -24,14 +23,13 @@ use Rattle.acknowledge.specs.Acknowledge.{offer, sourceOf, given}
 use Rattle.wake.specs.Wake.{isSpurious, isNumber, woken, wakeSet, urgent, ready}
 use Rattle.wake.proofs.Readiness.{some-at, ready-offer, ready-number}
 use Rattle.delivery.proofs.Answers.{acknowledge-is, acknowledged-is}
-use Rattle.answer.specs.Answer.{Outcome, gave}
-use Rattle.cpu_interface_frame.specs.CpuInterfaceFrame.{readAnswer}
+use Rattle.answer.specs.Answer.{gave}
 use Rattle.lawful.specs.Lawful.{Controls}
-use Rattle.lawful.proofs.Depths.{offer-room, at-most-255}
+use Rattle.lawful.proofs.Depths.{offer-room}
 use Rattle.moves.proofs.Slots.{served}
 use Rattle.history.specs.History.{called}
 use Rattle.waiting.specs.Waiting.{bit}
-use Rattle.stories.specs.Stories.{acknowledge, Takes, ahead, NoneAhead}
+use Rattle.stories.specs.Stories.{acknowledge, Takes, NoneAhead}
 use Rattle.stories.proofs.Calls.{acknowledge-call}
 
 -- neither of two

@@ -1,12 +1,12 @@
 -- Two vCPUs ring the same SGI at the same sleeping neighbour, in any order, while others go on: both rings are given, one at a time, each with its
 -- source. Assumes nothing.
-use mathlib.Core.Path.{_≡_, refl, sym, ap, subst, _∙_}
-use mathlib.Core.Bool.{Bool, true, false, not, cond}
-use mathlib.Core.List.{List, [], _∷_}
+use mathlib.Core.Path.{_≡_, refl, sym, ap, _∙_}
+use mathlib.Core.Bool.{Bool, true, false, cond}
+use mathlib.Core.List.{List, _∷_}
 use Prim.Native.Nat.{ℕ, _+_, _*_, _%_, _^_, _≤_, _<_}
 use native.Mathlib.Omega.{arith}
 use lib.Bits.{bitOr, and-le-l, or-add-and}
-use lib.Dec.{eqb, ltb}
+use lib.Dec.{ltb}
 use lib.Pow.{pow-pos}
 use borrow.Author.Tests.{lt-ltb, eq-eqb, ne-eqb}
 use Rattle.interrupt.specs.declared.record.InterruptRecord.{InterruptRecord}
@@ -15,7 +15,7 @@ use Rattle.word.proofs.RecordWord.{decoded-in-range}
 use Rattle.state.specs.declared.layout.Shape.{Shape}
 use Rattle.state.specs.declared.words.Entry.{Entry}
 use Rattle.state.specs.Words.{wordAt, recordSlot, RecordThere, recordAt, sourcesAt}
-use Rattle.sgi.specs.Sgi.{sgiTarget, includes, mergedSources, writeSgir}
+use Rattle.sgi.specs.Sgi.{mergedSources, writeSgir}
 use Rattle.select.specs.Select.{entryFor}
 use Rattle.service.specs.Service.{depthAt, stackAt, isNewest, Served}
 use Rattle.acknowledge.specs.Acknowledge.{lowestSource, sourceOf, givenRecord, given, Givable}
@@ -35,7 +35,7 @@ use Rattle.stories.proofs.Elsewhere.{elsewhere-controls, elsewhere-agre
 use Rattle.stories.proofs.Events.{rung-record, rung-sources, rung-stack, rung-steady, given-steady, given-left, retired-served, retired-idle, ended-steady, ended-sources}
 use Rattle.stories.proofs.Sources.{pair, lower-first, higher-left, only-source, none-left}
 use Rattle.stories.proofs.Steady.{Steady, then-steady, eoi-same, takes-steady, agree-record, agree-sources, agree-stack, agree-steady}
-use Rattle.stories.proofs.Turns.{entry, is-number, given-call, given-offered, wake-bit}
+use Rattle.stories.proofs.Turns.{is-number, given-call, given-offered, wake-bit}
 
 module _ (shape : Shape) (t n : ℕ) (exists : t < shape .count) (sgi : n < 16) (base : List ℕ) where
   -- the SGI at t, with these sources: enabled as at first, not active, and nothing else under service than at first

@@ -2,7 +2,7 @@
 -- interrupt is being handled"), as calls to a controller and what they answer.
 use mathlib.Core.Path.{_≡_}
 use mathlib.Core.Bool.{Bool, true, false, not, cond, _&&_, _||_}
-use mathlib.Core.List.{List, [], _∷_, _++_}
+use mathlib.Core.List.{List, [], _∷_}
 use Prim.Native.Nat.{ℕ, _+_, _*_, _%_, _^_, _≤_, _<_}
 use lib.Dec.{eqb, ltb}
 use Rattle.register.specs.declared.frame.AccessWidth.{AccessWidth}
@@ -180,11 +180,8 @@ pub record PulseInFlight : Type 0 where
 abbrev pub pulsed : PulseInFlight → Outcome
 pulsed h = called (Pulse (h .vcpu) (h .interrupt)) (h .words)
 
-abbrev pub retiring : PulseInFlight → Call
-retiring h = WriteCpuInterface (h .retirer) (h .offset) (h .width) (h .writes)
-
 abbrev pub retires : PulseInFlight → Outcome
-retires h = called (retiring h) (run (h .meanwhile₁) (pulsed h .state))
+retires h = called (WriteCpuInterface (h .retirer) (h .offset) (h .width) (h .writes)) (run (h .meanwhile₁) (pulsed h .state))
 
 abbrev pub turn : PulseInFlight → List ℕ
 turn h = run (h .meanwhile₂) (retires h .state)
@@ -200,15 +197,17 @@ pub record Served (h : PulseInFlight) : Type 0 where
   pub in-flight : recordAt (h .shape) (h .vcpu) (h .interrupt) (h .words) .inflight ≡ true
   pub its-retirer : meets (h .vcpu) (h .interrupt) (h .retirer) ≡ true
   pub retired : retires h .retired ≡ h .interrupt
-  pub untaken : never (takesPending (h .shape) (h .vcpu) (h .interrupt)) (h .meanwhile₁ ++ retiring h ∷ h .meanwhile₂) (pulsed h .state) ≡ true
+  pub untaken₁ : never (takesPending (h .shape) (h .vcpu) (h .interrupt)) (h .meanwhile₁) (pulsed h .state) ≡ true
+  pub untaken₂ : never (takesPending (h .shape) (h .vcpu) (h .interrupt)) (h .meanwhile₂) (retires h .state) ≡ true
   pub reader-exists : h .reader < h .shape .count
   pub its-reader : meets (h .vcpu) (h .interrupt) (h .reader) ≡ true
   pub takes : Takes (h .shape) (h .reader) (h .interrupt) (turn h)
   pub none-ahead : NoneAhead (h .shape) (h .reader) (h .interrupt) (turn h)
 
--- once retired it is no longer served and waits, and it is given again
+-- the pulse is noted; once retired the interrupt is no longer served and waits; and it is given again
 pub record GivenAgain (h : PulseInFlight) : Type 0 where
   pub pulse-accepted : pulsed h .refusal ≡ 0
+  pub noted : recordAt (h .shape) (h .vcpu) (h .interrupt) (pulsed h .state) .«redelivery_pending» ≡ true
   pub waits : recordAt (h .shape) (h .vcpu) (h .interrupt) (retires h .state) .pending ≡ true
   pub idle : recordAt (h .shape) (h .vcpu) (h .interrupt) (retires h .state) .active ≡ false
   pub not-in-flight : recordAt (h .shape) (h .vcpu) (h .interrupt) (retires h .state) .inflight ≡ false
