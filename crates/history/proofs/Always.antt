@@ -1,6 +1,6 @@
 -- Demand 3: "Take a fresh controller and any sequence of calls, refused ones included, each acting as demand 2 defines it." What is here
 -- is about the words that the calls leave, for every count and limit that setup accepts, whatever the lent words held before. Assumes nothing.
-use mathlib.Core.Path.{_≡_, refl, sym, subst}
+use mathlib.Core.Path.{_≡_, refl, sym, subst, _∙_}
 use mathlib.Core.Bool.{Bool, true, false, not, cond}
 use mathlib.Core.List.{List, [], _∷_}
 use Prim.Native.Nat.{ℕ, _≤_, _<_}
@@ -16,6 +16,7 @@ use Rattle.state.specs.Fresh.{fresh}
 use Rattle.state.specs.Layout.{size}
 use Rattle.state.specs.Lent.{limited, shaped}
 use Rattle.state.specs.Words.{enabledAt}
+use Rattle.state.proofs.Starting.{fresh-past}
 use Rattle.state.proofs.Tests.{left-true, right-true}
 use Rattle.state.proofs.Validated.{limited-shape, limited-limits}
 use Rattle.service.specs.Service.{depthAt}
@@ -28,7 +29,8 @@ use Rattle.cpu_interface_frame.specs.CpuInterfaceFrame.{readAnswer}
 use Rattle.lawful.specs.Lawful.{Orderly, Controls, Controller}
 use Rattle.lawful.proofs.Depths.{at-most-255, never-full}
 use Rattle.lawful.proofs.Starting.{fresh-controls}
-use Rattle.moves.proofs.Controllers.{chain-controls}
+use Rattle.moves.proofs.Controllers.{chain-controls, chain-keeps}
+use Rattle.moves.proofs.Past.{past, move-past}
 use Rattle.history.specs.History.{Call, Setup, isSetup, called, run, answers, noSetup, Accepted, Ordinary, Each}
 use Rattle.history.proofs.Calls.{call-chain}
 use Rattle.history.proofs.Each.{few, setup-or-other, each-call}
@@ -82,6 +84,23 @@ unfolding run
 same-controller shape [] e s h = h
 same-controller shape (c ∷ cs) e s h =
     same-controller shape cs (right-true (not (isSetup c)) (noSetup cs) e) (called c s .state) (every-other-call shape c (not-true (isSetup c) (left-true (not (isSetup c)) (noSetup cs) e)) s h)
+
+-- no call but a setup changes a word past the state, and a setup none past the one that it starts
+past-stays : (shape : Shape) (cs : List Call) → noSetup cs ≡ true → (s : List ℕ) → Controls shape s → past shape (run cs s) ≡ past shape s
+unfolding run
+past-stays shape [] e s h = refl
+past-stays shape (c ∷ cs) e s h =
+    let other : isSetup c ≡ false = not-true (isSetup c) (left-true (not (isSetup c)) (noSetup cs) e) in
+    past-stays shape cs (right-true (not (isSetup c)) (noSetup cs) e) (called c s .state) (every-other-call shape c other s h)
+    ∙ chain-keeps (λ r. past shape r ≡ past shape s) (λ m r made o controls before. move-past shape r (controls .lawful) m o ∙ before) (call-chain shape s h c other) h refl
+
+pub words-past-stay : (count limit : ℕ) (words : List ℕ) → Accepted count limit words → (cs : List Call) → noSetup cs ≡ true
+    → past (shaped count limit) (run (Setup count limit ∷ cs) words) ≡ past (shaped count limit) words
+unfolding run
+words-past-stay count limit words accepted cs e =
+    past-stays (shaped count limit) cs e (called (Setup count limit) words .state) (a-fresh-controller count limit words accepted)
+    ∙ setup-cases count limit words (λ o. o .refusal ≡ 0 → past (shaped count limit) (o .state) ≡ past (shaped count limit) words) (λ o ordinary no same q. absurd (no q))
+    (λ controls q. fresh-past (shaped count limit) words) accepted
 
 -- no call to a controller is refused by 6, and no acknowledge by 7
 module _ (s : List ℕ) (h : Controller s) where

@@ -1,5 +1,6 @@
 -- What each move leaves alone, and that each keeps a controller a controller.
 pub mod Controllers
 pub mod Parts
+pub mod Past
 pub mod Records
 pub mod Slots
