@@ -151,7 +151,7 @@ module _ {shape : Shape} {v n : ℕ} {r : InterruptRecord} (h : Fine shape v n r
           idle = h .lawful .idle;
         };
       }
-  change-fine (SetLevel a) f = no-sgi (setLevel r a) f refl refl (level-noted (risesInService r a) (fallsIdle r a) (rises a)) refl refl
+  change-fine (SetLevel a) f = no-sgi (setLevel r a) (omega (arith, f)) refl refl (level-noted (risesInService r a) (fallsIdle r a) (rises a)) refl refl
   change-fine Pulse f = no-sgi (pulse r) f refl refl (pulse-noted (r .inflight) refl) refl refl
   change-fine DeactivateInflight f = idled (retire r) refl refl refl refl refl refl
   change-fine Complete f = settled (complete r) (not-true (r .inflight) (right-true (r .active) (not (r .inflight)) f)) refl refl refl refl refl refl

@@ -123,6 +123,10 @@ module _ (t : ℕ) (r : InterruptRecord) where
   again : InterruptRecord
   again = setPending (givenRecord t r) true
 
+  pub given-active : setPending (givenRecord t r) true .active ≡ true
+  unfolding givenRecord synchronizeInflight setState setOwner markInflight setPending
+  given-active = refl
+
   pub retired-served : servedHere t (setPending (givenRecord t r) true) ≡ true
   unfolding givenRecord synchronizeInflight setState setOwner markInflight setPending
   retired-served = eq-eqb t t refl

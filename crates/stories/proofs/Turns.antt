@@ -1,29 +1,35 @@
 -- An interrupt whose turn it is at a vCPU is what an acknowledge hands out; a vCPU that has one that it can take is not quiet. Assumes nothing.
 use mathlib.Core.Path.{_≡_, refl, sym, ap, _∙_}
-use mathlib.Core.Bool.{Bool, true, false, _&&_, _||_, true≢false}
+use mathlib.Core.Bool.{Bool, true, false, not, _&&_, _||_, true≢false, false≢true}
 use mathlib.Core.List.{List}
 use Prim.Native.Nat.{ℕ, _+_, _*_, _/_, _%_, _^_, _<_}
 use native.Mathlib.Nat.{one-mul}
+use native.Mathlib.Omega.{arith}
 use lib.Dec.{eqb, ltb}
-use borrow.Author.Tests.{lt-ltb, ltb-false, eq-eqb}
+use borrow.Author.Tests.{lt-ltb, ltb-false, eq-eqb, not-true}
+use Rattle.state.proofs.Tests.{left-true, right-true}
 use Rattle.word.specs.Fields.{gathered}
 use Rattle.word.specs.Word.{bitOf}
 use Rattle.word.proofs.Gathered.{gathered-field}
 use Rattle.word.proofs.RecordWord.{bit-fits}
 use Rattle.state.specs.declared.layout.Shape.{Shape}
+use Rattle.state.specs.declared.layout.InterfaceValue.the-variants.{PriorityMask}
 use Rattle.state.specs.declared.words.Entry.{Entry}
-use Rattle.state.specs.Words.{recordAt}
+use Rattle.state.specs.Words.{recordAt, interfaceAt}
 use Rattle.select.specs.declared.Selected.{Selected}
 use Rattle.select.specs.declared.Selected.the-variants.{Best, Nothing}
+use Rattle.select.specs.Select as select
 use Rattle.select.specs.Select.{candidate, entryFor, IsBest}
-use Rattle.select.proofs.Meaning.{is-best}
+use Rattle.select.proofs.Meaning.{best-is, is-best}
 use Rattle.service.specs.Service.{depthAt}
 use Rattle.acknowledge.specs.Acknowledge as acknowledge-of
 use Rattle.acknowledge.specs.Acknowledge.{offer, sourceOf, given}
+use Rattle.acknowledge.proofs.Offers.{offer-is}
 use Rattle.wake.specs.Wake.{isSpurious, isNumber, woken, wakeSet, urgent, ready}
 use Rattle.wake.proofs.Readiness.{some-at, ready-offer, ready-number}
 use Rattle.delivery.proofs.Answers.{acknowledge-is, acknowledged-is}
 use Rattle.answer.specs.Answer.{gave}
+use Rattle.cpu_interface_frame.specs.CpuInterfaceFrame.{readAnswer}
 use Rattle.lawful.specs.Lawful.{Controls}
 use Rattle.lawful.proofs.Depths.{offer-room}
 use Rattle.moves.proofs.Slots.{served}
@@ -89,6 +95,28 @@ module _ (shape : Shape) (v n : ℕ) (s : List ℕ) (h : Controls shape s) (exis
 
     pub given-offered : offer shape v s ≡ Best entry
     given-offered = offered
+
+-- an active interrupt is not handed out
+pub active-waits : (shape : Shape) (v n : ℕ) (s : List ℕ) → Controls shape s → v < shape .count → n < 1020 → recordAt shape v n s .active ≡ true
+    → (source : ℕ) → called (acknowledge v) s .value ≡ n + 1024 * source → ⊥
+unfolding acknowledge-of.answered candidate
+active-waits shape v n s h exists numbered active source p = go (offer shape v s) refl (rw (acknowledge-call shape s h v exists) at p)
+  where
+    idle : (m : ℕ) → candidate shape v s m ≡ true → recordAt shape v m s .active ≡ false
+    idle m c =
+        let r = recordAt shape v m s in
+        let mask : ℕ = interfaceAt shape v PriorityMask s in
+        not-true (r .active)
+        (right-true (select.offered v m r && r .enabled && r .pending) (not (r .active)) (left-true (select.offered v m r && r .enabled && r .pending && not (r .active)) (ltb (r .priority .0) mask) c))
+
+    go : (b : Selected) → offer shape v s ≡ b → readAnswer (acknowledge-of.answered shape v s b) s (acknowledge-of.acknowledged shape v s) .value ≡ n + 1024 * source → ⊥
+    go Nothing o q = omega (arith, q, numbered)
+    go (Best e) o q =
+        let room = offer-room shape v s (h .lawful .orderly) exists e o in
+        let is = best-is shape v s e (offer-is shape v s e o .best-one) in
+        let value : e .intid .0 + 1024 * sourceOf shape v (e .intid .0) s ≡ n + 1024 * source = simp (lt-ltb (depthAt shape v s) 255 room) at q in
+        let same : e .intid .0 ≡ n = omega (arith, value, numbered, is .below, h .lawful .in-range .state .limits .few-numbers) in
+        absurd (false≢true (sym (idle n (rw same at (is .chosen))) ∙ active))
 
 -- the bit of a vCPU in a wake set
 pub wake-bit : (shape : Shape) (v : ℕ) (before after : List ℕ) → v < shape .count → isSpurious (acknowledge-of.acknowledge shape v before) ≡ true

@@ -32,12 +32,30 @@ use Rattle.stories.specs.Stories as story
 use Rattle.stories.specs.Stories.{ring, acknowledge, end, Rings, Takes, NoneAhead, allElsewhere, TwoRings, Sleeping, lower, higher, BothGiven}
 use Rattle.stories.proofs.Calls.{ring-call, end-call, asleep-quiet}
 use Rattle.stories.proofs.Elsewhere.{elsewhere-controls, elsewhere-agrees}
-use Rattle.stories.proofs.Events.{rung-record, rung-sources, rung-stack, rung-steady, given-steady, given-left, retired-served, retired-idle, ended-steady, ended-sources}
+use Rattle.stories.proofs.Events.{rung-record, rung-sources, rung-stack, rung-steady, given-steady, given-left, given-active, retired-served, retired-idle, ended-steady, ended-sources}
 use Rattle.stories.proofs.Sources.{pair, lower-first, higher-left, only-source, none-left}
 use Rattle.stories.proofs.Steady.{Steady, then-steady, eoi-same, takes-steady, agree-record, agree-sources, agree-stack, agree-steady}
-use Rattle.stories.proofs.Turns.{is-number, given-call, given-offered, wake-bit}
+use Rattle.stories.proofs.Turns.{active-waits, is-number, given-call, given-offered, wake-bit}
 
-module _ (shape : Shape) (t n : ℕ) (exists : t < shape .count) (sgi : n < 16) (base : List ℕ) where
+module _ (h : TwoRings) (z : Sleeping h) where
+  abbrev shape : Shape
+  shape = h .shape
+
+  abbrev t : ℕ
+  t = h .target
+
+  abbrev n : ℕ
+  n = h .sgi
+
+  abbrev base : List ℕ
+  base = h .words
+
+  exists : t < shape .count
+  exists = z .target-exists
+
+  sgi : n < 16
+  sgi = z .is-sgi
+
   -- the SGI at t, with these sources: enabled as at first, not active, and nothing else under service than at first
   record Waits (x : ℕ) (s : List ℕ) : Type 0 where
     controls : Controls shape s
@@ -108,92 +126,81 @@ module _ (shape : Shape) (t n : ℕ) (exists : t < shape .count) (sgi : n < 16) 
         sources = agree-sources shape t n s (run cs s) agrees exists sgi own ∙ w .sources;
       }
 
-  module _ (takes : Takes shape t n base) (no-eoi-mode : eoiMode shape t base ≡ false) where
-    -- an SGI that waits with a source is pending, and t can take it
-    takes-it : (x : ℕ) (s : List ℕ) → Waits x s → Takes shape t n s
-    takes-it x s w = takes-steady (w .steady) exists sgi takes (w .stack) (w .idle)
+  -- an SGI that waits with a source is pending, and t can take it
+  takes-it : (x : ℕ) (s : List ℕ) → Waits x s → Takes shape t n s
+  takes-it x s w = takes-steady (w .steady) exists sgi (z .takes) (w .stack) (w .idle)
 
-    pending : (x : ℕ) (s : List ℕ) → (x ≡ 0 → ⊥) → Waits x s → recordAt shape t n s .pending ≡ true
-    pending x s some w = w .controls .lawful .orderly .sourced t n exists sgi ∙ simp (w .sources, ne-eqb x 0 some)
+  pending : (x : ℕ) (s : List ℕ) → (x ≡ 0 → ⊥) → Waits x s → recordAt shape t n s .pending ≡ true
+  pending x s some w = w .controls .lawful .orderly .sourced t n exists sgi ∙ simp (w .sources, ne-eqb x 0 some)
 
-    -- an acknowledge gives it with its lowest source
-    module _ (x : ℕ) (s : List ℕ) (some : x ≡ 0 → ⊥) (w : Waits x s) (none : NoneAhead shape t n s) where
-      source-is : sourceOf shape t n s ≡ lowestSource x
-      unfolding sourceOf
-      source-is = simp (lt-ltb n 16 sgi, w .sources)
+  -- an acknowledge gives it with its lowest source
+  module _ (x : ℕ) (s : List ℕ) (some : x ≡ 0 → ⊥) (w : Waits x s) (none : NoneAhead shape t n s) where
+    source-is : sourceOf shape t n s ≡ lowestSource x
+    unfolding sourceOf
+    source-is = simp (lt-ltb n 16 sgi, w .sources)
 
-      abbrev taken : Entry
-      taken = entryFor shape t s n
+    abbrev taken : Entry
+    taken = entryFor shape t s n
 
-      gives : called (acknowledge t) s ≡ gave (n + 1024 * lowestSource x) (given shape t taken s)
-      gives = given-call shape t n s (w .controls) exists (numbered (w .controls)) (takes-it x s w) (pending x s some w) none ∙ simp source-is
+    gives : called (acknowledge t) s ≡ gave (n + 1024 * lowestSource x) (given shape t taken s)
+    gives = given-call shape t n s (w .controls) exists (numbered (w .controls)) (takes-it x s w) (pending x s some w) none ∙ simp source-is
 
-      lent : Givable shape t taken s
-      lent = givable shape s (w .controls .lawful) t taken
-          (record { exists = exists; offered = given-offered shape t n s (w .controls) exists (numbered (w .controls)) (takes-it x s w) (pending x s some w) none })
+    given-lent : Givable shape t taken s
+    given-lent = givable shape s (w .controls .lawful) t taken
+        (record { exists = exists; offered = given-offered shape t n s (w .controls) exists (numbered (w .controls)) (takes-it x s w) (pending x s some w) none })
 
-      left-is : sourcesAt shape t n (given shape t taken s) ≡ mergedSources false x (2 ^ lowestSource x)
-      left-is = given-sources shape t taken s lent sgi ∙ ap (λ (k : ℕ). mergedSources false k (2 ^ lowestSource k)) (w .sources)
+    left-is : sourcesAt shape t n (given shape t taken s) ≡ mergedSources false x (2 ^ lowestSource x)
+    left-is = given-sources shape t taken s given-lent sgi ∙ ap (λ (k : ℕ). mergedSources false k (2 ^ lowestSource k)) (w .sources)
 
-      state : called (acknowledge t) s .state ≡ given shape t taken s
-      state = ap (λ (o : Outcome). o .state) gives
+    state : called (acknowledge t) s .state ≡ given shape t taken s
+    state = ap (λ (o : Outcome). o .state) gives
 
-      serves : (y : ℕ) → mergedSources false x (2 ^ lowestSource x) ≡ y → (y ≡ 0 → ⊥) → Serves taken (recordAt shape t n s) y (called (acknowledge t) s .state)
-      serves y left more = record {
-        controls = every-other-call shape (acknowledge t) refl s (w .controls);
-        steady = then-steady (w .steady) (rw state (given-steady shape t taken s lent sgi));
-        stack = rw state (given-stack shape t taken s lent (omega (arith, sgi)) byte ∙ ap (λ (es : List Entry). taken ∷ es) (w .stack));
-        pends = rw state (given-left shape t taken s lent sgi (λ p. more (sym left ∙ sym left-is ∙ p)));
-        sources = rw state (left-is ∙ left);
-      }
-        where
-          byte : taken .priority .0 < 256
-          byte = decoded-in-range (wordAt shape (recordSlot t n) s) .priority-byte
+    serves : (y : ℕ) → mergedSources false x (2 ^ lowestSource x) ≡ y → (y ≡ 0 → ⊥) → Serves taken (recordAt shape t n s) y (called (acknowledge t) s .state)
+    serves y left more = record {
+      controls = every-other-call shape (acknowledge t) refl s (w .controls);
+      steady = then-steady (w .steady) (rw state (given-steady shape t taken s given-lent sgi));
+      stack = rw state (given-stack shape t taken s given-lent (omega (arith, sgi)) byte ∙ ap (λ (es : List Entry). taken ∷ es) (w .stack));
+      pends = rw state (given-left shape t taken s given-lent sgi (λ p. more (sym left ∙ sym left-is ∙ p)));
+      sources = rw state (left-is ∙ left);
+    }
+      where
+        byte : taken .priority .0 < 256
+        byte = decoded-in-range (wordAt shape (recordSlot t n) s) .priority-byte
 
-    -- its end leaves it waiting with what is left
-    module _ (e : Entry) (r : InterruptRecord) (x : ℕ) (s : List ℕ) (is : e .intid .0 ≡ n) (w : Serves e r x s) where
-      h : Served shape t s
-      h = served shape s (w .controls .lawful) t exists
+  -- its end leaves it waiting with what is left
+  module _ (e : Entry) (r : InterruptRecord) (x : ℕ) (s : List ℕ) (is : e .intid .0 ≡ n) (w : Serves e r x s) where
+    lent : Served shape t s
+    lent = served shape s (w .controls .lawful) t exists
 
-      newest : isNewest n (stackAt shape t s) ≡ true
-      newest = rw (w .stack) (eq-eqb (e .intid .0) n is)
+    newest : isNewest n (stackAt shape t s) ≡ true
+    newest = rw (w .stack) (eq-eqb (e .intid .0) n is)
 
-      off : eoiMode shape t s ≡ false
-      off = eoi-same (w .steady) exists ∙ no-eoi-mode
+    off : eoiMode shape t s ≡ false
+    off = eoi-same (w .steady) exists ∙ z .no-eoi-mode
 
-      ends : called (end t n) s ≡ went shape (endRetired shape t n s) s (ended shape t n s)
-      ends = end-call shape s (w .controls) t n exists (omega (arith, sgi))
+    ends : called (end t n) s ≡ went shape (endRetired shape t n s) s (ended shape t n s)
+    ends = end-call shape s (w .controls) t n exists (omega (arith, sgi))
 
-      after : called (end t n) s .state ≡ ended shape t n s
-      after = ap (λ (o : Outcome). o .state) ends
+    after : called (end t n) s .state ≡ ended shape t n s
+    after = ap (λ (o : Outcome). o .state) ends
 
-      retires : called (end t n) s .retired ≡ n
-      unfolding retired
-      retires =
-          ap (λ (o : Outcome). o .retired) ends
-          ∙ ended-retired shape t n s h newest off
-          ∙ simp (lt-ltb n (shape .limit) (numbered (w .controls)), w .pends, retired-served t r)
+    retires : called (end t n) s .retired ≡ n
+    unfolding retired
+    retires =
+        ap (λ (o : Outcome). o .retired) ends
+        ∙ ended-retired shape t n s lent newest off
+        ∙ simp (lt-ltb n (shape .limit) (numbered (w .controls)), w .pends, retired-served t r)
 
-      waits-again : Waits x (called (end t n) s .state)
-      waits-again = record {
-        controls = every-other-call shape (end t n) refl s (w .controls);
-        steady = then-steady (w .steady) (rw after (ended-steady shape t n s h newest off (numbered (w .controls))));
-        stack = rw after (ended-stack shape t n s h newest e (stackAt shape t base) (w .stack));
-        idle = rw after (ap (λ (q : InterruptRecord). q .active) (ended-record shape t n s h newest off (numbered (w .controls))) ∙ rw (w .pends) (retired-idle t r));
-        sources = rw after (ended-sources shape t n s h newest off (numbered (w .controls)) sgi ∙ w .sources);
-      }
+    waits-again : Waits x (called (end t n) s .state)
+    waits-again = record {
+      controls = every-other-call shape (end t n) refl s (w .controls);
+      steady = then-steady (w .steady) (rw after (ended-steady shape t n s lent newest off (numbered (w .controls))));
+      stack = rw after (ended-stack shape t n s lent newest e (stackAt shape t base) (w .stack));
+      idle = rw after (ap (λ (q : InterruptRecord). q .active) (ended-record shape t n s lent newest off (numbered (w .controls))) ∙ rw (w .pends) (retired-idle t r));
+      sources = rw after (ended-sources shape t n s lent newest off (numbered (w .controls)) sgi ∙ w .sources);
+    }
 
--- the story
-module _ (h : TwoRings) (z : Sleeping h) where
-  abbrev shape : Shape
-  shape = h .shape
-
-  abbrev t : ℕ
-  t = h .target
-
-  abbrev n : ℕ
-  n = h .sgi
-
+  -- the story
   low : ℕ
   low = lower (h .one) (h .other)
 
@@ -211,7 +218,7 @@ module _ (h : TwoRings) (z : Sleeping h) where
       go true = few (h .other) (z .other-exists)
       go false = few (h .one) (z .one-exists)
 
-  asleep : Waits shape t n (z .target-exists) (z .is-sgi) (h .words) 0 (h .words)
+  asleep : Waits 0 base
   asleep = record {
     controls = z .controls;
     steady = record { enabling = record { agree = λ y x e. refl }; enabled = refl; priority = refl };
@@ -220,17 +227,14 @@ module _ (h : TwoRings) (z : Sleeping h) where
     sources = z .unrung;
   }
 
-  abbrev At : ℕ → List ℕ → Type 0
-  At x s = Waits shape t n (z .target-exists) (z .is-sgi) (h .words) x s
+  rung-once : Waits (bitOr 0 (2 ^ h .one)) (story.oneRings h .state)
+  rung-once = ring-waits (h .one) (h .one-writes) 0 (h .words) (z .one-exists) (z .one-rings) asleep
 
-  rung-once : At (bitOr 0 (2 ^ h .one)) (story.oneRings h .state)
-  rung-once = ring-waits shape t n (z .target-exists) (z .is-sgi) (h .words) (h .one) (h .one-writes) 0 (h .words) (z .one-exists) (z .one-rings) asleep
-
-  both-wait : At (pair (h .one) (h .other)) (story.bothWait h)
+  both-wait : Waits (pair (h .one) (h .other)) (story.bothWait h)
   both-wait =
-      let between = elsewhere-waits shape t n (z .target-exists) (z .is-sgi) (h .words) (h .meanwhile₁) _ _ (z .elsewhere₁) rung-once in
-      elsewhere-waits shape t n (z .target-exists) (z .is-sgi) (h .words) (h .meanwhile₂) _ _ (z .elsewhere₂)
-      (ring-waits shape t n (z .target-exists) (z .is-sgi) (h .words) (h .other) (h .other-writes) _ _ (z .other-exists) (z .other-rings) between)
+      let between = elsewhere-waits (h .meanwhile₁) _ _ (z .elsewhere₁) rung-once in
+      elsewhere-waits (h .meanwhile₂) _ _ (z .elsewhere₂)
+      (ring-waits (h .other) (h .other-writes) _ _ (z .other-exists) (z .other-rings) between)
 
   -- a set with a source in it is not 0
   some : (x u : ℕ) → bitOr x (2 ^ u) ≡ 0 → ⊥
@@ -243,7 +247,7 @@ module _ (h : TwoRings) (z : Sleeping h) where
   first = entryFor shape t (story.bothWait h) n
 
   first-gives : story.firstRead h ≡ gave (n + 1024 * lowestSource (pair (h .one) (h .other))) (given shape t first (story.bothWait h))
-  first-gives = gives shape t n (z .target-exists) (z .is-sgi) (h .words) (z .takes) (z .no-eoi-mode) _ _ (some (bitOr 0 (2 ^ h .one)) (h .other)) both-wait (z .none-ahead₁)
+  first-gives = gives _ _ (some (bitOr 0 (2 ^ h .one)) (h .other)) both-wait (z .none-ahead₁)
 
   lowest : lowestSource (pair (h .one) (h .other)) ≡ low
   unfolding low
@@ -254,18 +258,18 @@ module _ (h : TwoRings) (z : Sleeping h) where
   left = ap (λ (k : ℕ). mergedSources false (pair (h .one) (h .other)) (2 ^ k)) lowest
       ∙ higher-left (h .one) (h .other) (few (h .one) (z .one-exists)) (few (h .other) (z .other-exists)) (z .two)
 
-  in-service : Serves shape t n (z .target-exists) (z .is-sgi) (h .words) first (recordAt shape t n (story.bothWait h)) (2 ^ high) (run (h .meanwhile₃) (story.firstRead h .state))
+  in-service : Serves first (recordAt shape t n (story.bothWait h)) (2 ^ high) (story.serving h)
   in-service =
-      elsewhere-serves shape t n (z .target-exists) (z .is-sgi) (h .words) (h .meanwhile₃) first (recordAt shape t n (story.bothWait h)) (2 ^ high) (story.firstRead h .state) (z .elsewhere₃)
-      (serves shape t n (z .target-exists) (z .is-sgi) (h .words) (z .takes) (z .no-eoi-mode) _ _ (some (bitOr 0 (2 ^ h .one)) (h .other)) both-wait (z .none-ahead₁) (2 ^ high) left high-some)
+      elsewhere-serves (h .meanwhile₃) first (recordAt shape t n (story.bothWait h)) (2 ^ high) (story.firstRead h .state) (z .elsewhere₃)
+      (serves _ _ (some (bitOr 0 (2 ^ h .one)) (h .other)) both-wait (z .none-ahead₁) (2 ^ high) left high-some)
 
-  one-waits : At (2 ^ high) (story.oneWaits h)
+  one-waits : Waits (2 ^ high) (story.oneWaits h)
   one-waits =
-      elsewhere-waits shape t n (z .target-exists) (z .is-sgi) (h .words) (h .meanwhile₄) _ _ (z .elsewhere₄)
-      (waits-again shape t n (z .target-exists) (z .is-sgi) (h .words) (z .takes) (z .no-eoi-mode) first (recordAt shape t n (story.bothWait h)) (2 ^ high) _ refl in-service)
+      elsewhere-waits (h .meanwhile₄) _ _ (z .elsewhere₄)
+      (waits-again first (recordAt shape t n (story.bothWait h)) (2 ^ high) _ refl in-service)
 
   second-gives : story.secondRead h ≡ gave (n + 1024 * lowestSource (2 ^ high)) (given shape t (entryFor shape t (story.oneWaits h) n) (story.oneWaits h))
-  second-gives = gives shape t n (z .target-exists) (z .is-sgi) (h .words) (z .takes) (z .no-eoi-mode) _ _ high-some one-waits (z .none-ahead₂)
+  second-gives = gives _ _ high-some one-waits (z .none-ahead₂)
 
   -- the first ring finds the target asleep, and leaves it something to take
   woken-once : bit t (story.oneRings h .wake) ≡ true
@@ -275,9 +279,9 @@ module _ (h : TwoRings) (z : Sleeping h) where
       rw call
       (wake-bit shape t (h .words) (writeSgir shape (h .one) (h .one-writes % 2 ^ 32) (h .words)) (z .target-exists) (asleep-quiet shape (h .words) (z .controls) t (z .target-exists) (z .asleep))
       (rw state at
-      (is-number shape t n (story.oneRings h .state) (rung-once .controls) (z .target-exists) (numbered shape t n (z .target-exists) (z .is-sgi) (h .words) (rung-once .controls))
-      (takes-it shape t n (z .target-exists) (z .is-sgi) (h .words) (z .takes) (z .no-eoi-mode) _ _ rung-once)
-      (pending shape t n (z .target-exists) (z .is-sgi) (h .words) (z .takes) (z .no-eoi-mode) _ _ (some 0 (h .one)) rung-once))))
+      (is-number shape t n (story.oneRings h .state) (rung-once .controls) (z .target-exists) (numbered (rung-once .controls))
+      (takes-it _ _ rung-once)
+      (pending _ _ (some 0 (h .one)) rung-once))))
 
   pub both-given : BothGiven h
   unfolding low high
@@ -285,12 +289,13 @@ module _ (h : TwoRings) (z : Sleeping h) where
     wakes = woken-once;
     first-accepted = ap (λ (o : Outcome). o .refusal) first-gives;
     first-given = ap (λ (o : Outcome). o .value) first-gives ∙ ap (λ (k : ℕ). n + 1024 * k) lowest;
-    retired = retires shape t n (z .target-exists) (z .is-sgi) (h .words) (z .takes) (z .no-eoi-mode) first (recordAt shape t n (story.bothWait h)) (2 ^ high) _ refl in-service;
+    one-at-a-time = active-waits shape t n (story.serving h) (in-service .controls) exists (omega (arith, sgi)) (ap (λ (q : InterruptRecord). q .active) (in-service .pends) ∙ given-active t (recordAt shape t n (story.bothWait h)));
+    retired = retires first (recordAt shape t n (story.bothWait h)) (2 ^ high) _ refl in-service;
     second-accepted = ap (λ (o : Outcome). o .refusal) second-gives;
     second-given = ap (λ (o : Outcome). o .value) second-gives ∙ ap (λ (k : ℕ). n + 1024 * k) (only-source high high-few);
     none-left =
         ap (λ (o : Outcome). sourcesAt shape t n (o .state)) second-gives
-        ∙ left-is shape t n (z .target-exists) (z .is-sgi) (h .words) (z .takes) (z .no-eoi-mode) _ _ high-some one-waits (z .none-ahead₂)
+        ∙ left-is _ _ high-some one-waits (z .none-ahead₂)
         ∙ ap (λ (k : ℕ). mergedSources false (2 ^ high) (2 ^ k)) (only-source high high-few)
         ∙ none-left high high-few;
   }

@@ -115,8 +115,11 @@ bothWait h = run (h .meanwhile₂) (otherRings h .state)
 abbrev pub firstRead : TwoRings → Outcome
 firstRead h = called (acknowledge (h .target)) (bothWait h)
 
+abbrev pub serving : TwoRings → List ℕ
+serving h = run (h .meanwhile₃) (firstRead h .state)
+
 abbrev pub ended : TwoRings → Outcome
-ended h = called (end (h .target) (h .sgi)) (run (h .meanwhile₃) (firstRead h .state))
+ended h = called (end (h .target) (h .sgi)) (serving h)
 
 abbrev pub oneWaits : TwoRings → List ℕ
 oneWaits h = run (h .meanwhile₄) (ended h .state)
@@ -152,11 +155,12 @@ lower x y = cond (ltb x y) x y
 abbrev pub higher : ℕ → ℕ → ℕ
 higher x y = cond (ltb x y) y x
 
--- the first ring wakes the target; it is given both, one at a time, each with its source, and then none is left
+-- the first ring wakes the target; it is given both, each with its source, the second not before the first is ended; and then none is left
 pub record BothGiven (h : TwoRings) : Type 0 where
   pub wakes : bit (h .target) (oneRings h .wake) ≡ true
   pub first-accepted : firstRead h .refusal ≡ 0
   pub first-given : firstRead h .value ≡ h .sgi + 1024 * lower (h .one) (h .other)
+  pub one-at-a-time : (source : ℕ) → called (acknowledge (h .target)) (serving h) .value ≡ h .sgi + 1024 * source → ⊥
   pub retired : ended h .retired ≡ h .sgi
   pub second-accepted : secondRead h .refusal ≡ 0
   pub second-given : secondRead h .value ≡ h .sgi + 1024 * higher (h .one) (h .other)
