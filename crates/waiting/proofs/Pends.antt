@@ -28,7 +28,7 @@ use Rattle.state.proofs.Tests.{left-true}
 use Rattle.acknowledge.specs.Acknowledge.{sourceOf}
 use Rattle.lawful.specs.Lawful.{Controls}
 use Rattle.moves.specs.Moves.{Change, SetEnabled, SetPending, SetActive, CancelInflight, SetTrigger, SetPriority, SetCpuTargetMask, SetLevel, Pulse, DeactivateInflight, Complete, Move, Changed, Sourced, Kept, Switched, Given, Popped}
-use Rattle.history.specs.History.{Call, called, run}
+use Rattle.history.specs.History.{Call, ReadCpuInterface, called, run}
 use Rattle.history.proofs.Made.{BitMade, ClassMade, PlaceMade, Ends, WriteMade}
 use Rattle.waiting.specs.Waiting.{pends, meets, gives, isIcpendr, among, clearsPendingAt, takesPending, never}
 use Rattle.waiting.proofs.Keeping.{run-at, handedOut, handingOut, Waits, call-keeps, history-controls, history-keeps}
@@ -104,7 +104,7 @@ module _ (shape : Shape) (v n : ℕ) (there : RecordThere shape v n) (no-sgi : 1
   -- a read that answers another number
   read-spares : (s : List ℕ) (u offset : ℕ) (width : AccessWidth) (e : Entry)
       → ((x : ℕ) → handedOut shape u e s ≡ x → gives x (locateCpuInterface offset width) (handingOut shape u e s) ≡ true)
-      → (meets v n u && gives n (locateCpuInterface offset width) (handingOut shape u e s)) ≡ false → Spares shape v n (Given u e) s
+      → takesPending shape v n s (ReadCpuInterface u offset width) (handingOut shape u e s) ≡ false → Spares shape v n (Given u e) s
   unfolding sourceOf
   read-spares s u offset width e given free p =
       let at = met v n u (e .intid .0) p in

@@ -31,7 +31,7 @@ use Rattle.lawful.specs.Lawful.{Controls}
 use Rattle.moves.specs.Moves.{Move, Changed, Sourced, Kept, Switched, Given, Popped, moved, Open, Sourcing, Giving}
 use Rattle.moves.proofs.Controllers.{sourced-sources}
 use Rattle.moves.proofs.Slots.{Touches, givable, move-others}
-use Rattle.history.specs.History.{Call, called, run}
+use Rattle.history.specs.History.{Call, ReadCpuInterface, called, run}
 use Rattle.history.proofs.Made.{ClassMade, PlaceMade, WriteMade}
 use Rattle.waiting.specs.Waiting.{bit, rung, gives, isCpendsgir, among, clearsSourceAt, takesRing, never}
 use Rattle.waiting.proofs.BitLaws.{bit-below, bit-or, bit-cleared, bit-left}
@@ -130,7 +130,7 @@ module _ (shape : Shape) (t n u : ℕ) (exists : t < shape .count) (sgi : n < 16
   -- a read that answers another number, or this one with another source
   read-spares : (s : List ℕ) (v offset : ℕ) (width : AccessWidth) (e : Entry)
       → ((x : ℕ) → handedOut shape v e s ≡ x → gives x (locateCpuInterface offset width) (handingOut shape v e s) ≡ true)
-      → (eqb v t && gives (n + 1024 * u) (locateCpuInterface offset width) (handingOut shape v e s)) ≡ false → Spares (Given v e) s
+      → takesRing t n u (ReadCpuInterface v offset width) (handingOut shape v e s) ≡ false → Spares (Given v e) s
   unfolding sourceOf
   read-spares s v offset width e given free p q lowest =
       true≢false (simp (eq-eqb v t p, given (n + 1024 * u) (rw (p, q) (simp (lt-ltb n 16 sgi, lowest) refl))) at free)
