@@ -6,7 +6,7 @@ use mathlib.Core.Logic.{inl, inr}
 use Prim.Native.Nat.{ℕ, zero, suc, _+_, _*_, _/_, _%_, _^_, _≤_, _<_}
 use native.Mathlib.Nat.{mod-lt}
 use native.Mathlib.Omega.{arith}
-use lib.Bits.{bitAnd, bitOr, and-le-l, or-add-and}
+use lib.Bits.{bitOr}
 use lib.Dec.{eqb, leb, ltb}
 use lib.Pow.{pow-pos, pow-lt}
 use borrow.Author.Tests.{leb-true, ltb-true, ltb-false, ne-eqb}
@@ -29,7 +29,7 @@ use Rattle.state.proofs.Tests.{left-true, right-true}
 use Rattle.bits.specs.Bits.{fieldBits, perWord, acts, act, clearActive, writeNumber, writeBits, WordAt}
 use Rattle.targets.specs.Targets.{existingBits, writeTarget}
 use Rattle.sgi.specs.Sgi.{mergedSources, writeSources, sourced, pendSgi, includes, sgiTarget, sentTo, sendSgi, writeSgir}
-use Rattle.sgi.proofs.Rings.{merged-fits}
+use Rattle.sgi.proofs.Rings.{joined-some, merged-fits}
 use Rattle.distributor.specs.Bytes.{writePriority, writeByte, writeBytes, ByteThere, BytesAt}
 use Rattle.places.specs.Places.{sends, writeClass, writePlace, PlaceWritten}
 use Rattle.places.proofs.Fits.{bit-word, byte-run}
@@ -113,9 +113,7 @@ module _ (shape : Shape) (v n : ℕ) (exists : v < shape .count) (sgi : n < 16) 
 
   -- a ring leaves a source, so it is pending
   some-source : (x source : ℕ) → not (eqb (bitOr x (2 ^ source)) 0) ≡ true
-  some-source x source =
-      let both : bitOr x (2 ^ source) + bitAnd x (2 ^ source) ≡ x + 2 ^ source = or-add-and x (2 ^ source) in
-      simp (ne-eqb (bitOr x (2 ^ source)) 0 (λ e. absurd (omega (arith, e, both, and-le-l x (2 ^ source), pow-pos source))))
+  some-source x source = simp (ne-eqb (bitOr x (2 ^ source)) 0 (joined-some x source))
 
   ring-chain : {May : Move → Type 0} (source : ℕ) → source < 8 → May (Sourced v n true (2 ^ source)) → Chain shape May r (pendSgi shape v source n r)
   unfolding pendSgi

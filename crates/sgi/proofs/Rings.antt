@@ -8,9 +8,9 @@ use mathlib.Core.Logic.{inl, inr}
 use Prim.Native.Nat.{ℕ, _-_, _%_, _^_, _<_}
 use native.Mathlib.Nat.{lt-of-le-of-lt}
 use native.Mathlib.Omega.{arith}
-use lib.Bits.{and-le-l, bitOr, or-lt}
+use lib.Bits.{and-le-l, bitOr, or-add-and, or-lt}
 use lib.Dec.{eqb}
-use lib.Pow.{pow-lt}
+use lib.Pow.{pow-lt, pow-pos}
 use borrow.Author.Tests.{ne-eqb}
 use Rattle.interrupt.specs.Record.{setPending}
 use Rattle.interrupt.specs.declared.record.InterruptRecord.{InterruptRecord}
@@ -67,6 +67,10 @@ module _ (shape : Shape) (source n : ℕ) (target : SgiTarget) (s : List ℕ) (h
   pub sgi-room : Room shape (sendSgi shape source n target s)
   unfolding sendSgi
   sgi-room = steps-room shape (λ u. Of u n) (sentTo shape target source n) (shape .count) s sent h
+
+-- a set that a source has joined is not empty
+pub joined-some : (x source : ℕ) → bitOr x (2 ^ source) ≡ 0 → ⊥
+joined-some x source e = omega (arith, e, or-add-and x (2 ^ source), and-le-l x (2 ^ source), pow-pos source)
 
 -- sources merged are a byte
 pub merged-fits : (on : Bool) (x byte : ℕ) → x < 256 → byte < 256 → mergedSources on x byte < 256

@@ -1,4 +1,5 @@
 -- The user's stories, proved.
+pub mod Begins
 pub mod Calls
 pub mod Elsewhere
 pub mod Events

@@ -16,14 +16,13 @@ use Rattle.select.specs.Select.{entryFor}
 use Rattle.acknowledge.specs.Acknowledge.{sourceOf, given}
 use Rattle.answer.specs.Answer.{Outcome, gave, went}
 use Rattle.lawful.specs.Lawful.{Controls}
-use Rattle.moves.specs.Moves as moves
-use Rattle.moves.proofs.Controllers.{changed-record}
 use Rattle.history.specs.History.{WriteCpuInterface, Pulse, run}
 use Rattle.history.proofs.Always.{every-other-call}
 use Rattle.waiting.specs.Waiting.{meets, pends}
 use Rattle.waiting.proofs.Pends.{pending-stays, a-pulse-waits, pulse-controls}
 use Rattle.stories.specs.Stories as story
 use Rattle.stories.specs.Stories.{PulseInFlight, Served, GivenAgain}
+use Rattle.stories.proofs.Begins.{pulsed-record, a-pulse-is-pending}
 use Rattle.stories.proofs.Calls.{pulse-call}
 use Rattle.stories.proofs.Retiring.{Idle, retiring-idle}
 use Rattle.stories.proofs.Turns.{given-call}
@@ -60,18 +59,12 @@ module _ (h : PulseInFlight) (z : Served h) where
   controls₁ : Controls shape (story.pulsed h .state)
   controls₁ = every-other-call shape (Pulse v n) refl (h .words) (z .controls)
 
-  pulsed-record : recordAt shape v n (story.pulsed h .state) ≡ record-of.pulse (recordAt shape v n (h .words))
-  pulsed-record =
-      ap (λ (o : Outcome). recordAt shape v n (o .state)) pulse-is
-      ∙ changed-record shape (h .words) (z .controls .lawful) v n moves.Pulse (record { there = z .there; fits = z .no-sgi })
-
   pended₁ : pends shape v n (story.pulsed h .state) ≡ true
-  unfolding record-of.pulse
-  pended₁ = ap (λ (r : InterruptRecord). r .pending) pulsed-record
+  pended₁ = a-pulse-is-pending shape v n (h .words) (z .controls) (z .there) (z .no-sgi)
 
   noted₁ : recordAt shape v n (story.pulsed h .state) .«redelivery_pending» ≡ true
   unfolding record-of.pulse
-  noted₁ = ap (λ (r : InterruptRecord). r .«redelivery_pending») pulsed-record ∙ simp (z .in-flight)
+  noted₁ = ap (λ (r : InterruptRecord). r .«redelivery_pending») (pulsed-record shape v n (h .words) (z .controls) (z .there) (z .no-sgi)) ∙ simp (z .in-flight)
 
   -- until it is retired
   controls₂ : Controls shape (run (h .meanwhile₁) (story.pulsed h .state))

@@ -5,7 +5,7 @@ use mathlib.Core.Bool.{Bool, true, false, cond}
 use mathlib.Core.List.{List, _∷_}
 use Prim.Native.Nat.{ℕ, _+_, _*_, _%_, _^_, _≤_, _<_}
 use native.Mathlib.Omega.{arith}
-use lib.Bits.{bitOr, and-le-l, or-add-and}
+use lib.Bits.{bitOr}
 use lib.Dec.{ltb}
 use lib.Pow.{pow-pos}
 use borrow.Author.Tests.{lt-ltb, eq-eqb, ne-eqb}
@@ -17,6 +17,7 @@ use Rattle.state.specs.declared.words.Entry.{Entry}
 use Rattle.state.specs.Words.{wordAt, recordSlot, RecordThere, recordAt, sourcesAt}
 use Rattle.sgi.specs.Sgi.{mergedSources, writeSgir}
 use Rattle.select.specs.Select.{entryFor}
+use Rattle.sgi.proofs.Rings.{joined-some}
 use Rattle.service.specs.Service.{depthAt, stackAt, isNewest, Served}
 use Rattle.acknowledge.specs.Acknowledge.{lowestSource, sourceOf, givenRecord, given, Givable}
 use Rattle.end.specs.End.{eoiMode, retired, ended, endRetired}
@@ -236,10 +237,6 @@ module _ (h : TwoRings) (z : Sleeping h) where
       elsewhere-waits (h .meanwhile₂) _ _ (z .elsewhere₂)
       (ring-waits (h .other) (h .other-writes) _ _ (z .other-exists) (z .other-rings) between)
 
-  -- a set with a source in it is not 0
-  some : (x u : ℕ) → bitOr x (2 ^ u) ≡ 0 → ⊥
-  some x u e = omega (arith, e, or-add-and x (2 ^ u), and-le-l x (2 ^ u), pow-pos u)
-
   high-some : 2 ^ high ≡ 0 → ⊥
   high-some e = omega (arith, e, pow-pos high)
 
@@ -247,7 +244,7 @@ module _ (h : TwoRings) (z : Sleeping h) where
   first = entryFor shape t (story.bothWait h) n
 
   first-gives : story.firstRead h ≡ gave (n + 1024 * lowestSource (pair (h .one) (h .other))) (given shape t first (story.bothWait h))
-  first-gives = gives _ _ (some (bitOr 0 (2 ^ h .one)) (h .other)) both-wait (z .none-ahead₁)
+  first-gives = gives _ _ (joined-some (bitOr 0 (2 ^ h .one)) (h .other)) both-wait (z .none-ahead₁)
 
   lowest : lowestSource (pair (h .one) (h .other)) ≡ low
   unfolding low
@@ -261,7 +258,7 @@ module _ (h : TwoRings) (z : Sleeping h) where
   in-service : Serves first (recordAt shape t n (story.bothWait h)) (2 ^ high) (story.serving h)
   in-service =
       elsewhere-serves (h .meanwhile₃) first (recordAt shape t n (story.bothWait h)) (2 ^ high) (story.firstRead h .state) (z .elsewhere₃)
-      (serves _ _ (some (bitOr 0 (2 ^ h .one)) (h .other)) both-wait (z .none-ahead₁) (2 ^ high) left high-some)
+      (serves _ _ (joined-some (bitOr 0 (2 ^ h .one)) (h .other)) both-wait (z .none-ahead₁) (2 ^ high) left high-some)
 
   one-waits : Waits (2 ^ high) (story.oneWaits h)
   one-waits =
@@ -281,7 +278,7 @@ module _ (h : TwoRings) (z : Sleeping h) where
       (rw state at
       (is-number shape t n (story.oneRings h .state) (rung-once .controls) (z .target-exists) (numbered (rung-once .controls))
       (takes-it _ _ rung-once)
-      (pending _ _ (some 0 (h .one)) rung-once))))
+      (pending _ _ (joined-some 0 (h .one)) rung-once))))
 
   pub both-given : BothGiven h
   unfolding low high
