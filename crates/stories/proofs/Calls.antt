@@ -12,7 +12,7 @@ use Rattle.interrupt.specs.Types.{decoded}
 use Rattle.register.specs.declared.frame.AccessWidth.the-variants.{Dword}
 use Rattle.register.specs.declared.distributor.DistributorAccess.the-variants as distributor
 use Rattle.register.specs.declared.«cpu_interface».CpuInterfaceAccess.the-variants as interface
-use Rattle.register.specs.declared.«cpu_interface».CpuInterfaceRegister.the-variants.{Iar, Eoir}
+use Rattle.register.specs.declared.«cpu_interface».CpuInterfaceRegister.the-variants.{Iar, Eoir, Dir}
 use Rattle.register.specs.declared.ranges.Class.the-variants.{Sgir}
 use Rattle.register.specs.CpuInterface.{registers, registerIn, registerAt, locateCpuInterface}
 use Rattle.register.specs.Distributor.{plain, single, locateInFrame, locateDistributor}
@@ -35,9 +35,9 @@ use Rattle.lawful.specs.Lawful.{Controls}
 use Rattle.wake.specs.Wake.{isSpurious}
 use Rattle.history.specs.History.{Pulse, called}
 use Rattle.history.proofs.Each.{valid}
-use Rattle.stories.specs.Stories.{ring, acknowledge, end}
+use Rattle.stories.specs.Stories.{ring, acknowledge, end, deactivate}
 
--- where the three registers are
+-- where the registers are
 iar-at : locateCpuInterface 0x0c Dword ≡ interface.At Iar
 unfolding locateCpuInterface registerAt registerIn registers
 iar-at = refl
@@ -45,6 +45,10 @@ iar-at = refl
 eoir-at : locateCpuInterface 0x10 Dword ≡ interface.At Eoir
 unfolding locateCpuInterface registerAt registerIn registers
 eoir-at = refl
+
+dir-at : locateCpuInterface 0x1000 Dword ≡ interface.At Dir
+unfolding locateCpuInterface registerAt registerIn registers
+dir-at = refl
 
 sgir-at : locateDistributor 0xf00 Dword ≡ distributor.At (plain Sgir)
 unfolding locateDistributor locateInFrame single rangeAt rangeIn ranges
@@ -71,18 +75,24 @@ module _ (shape : Shape) (s : List ℕ) (h : Controls shape s) (v : ℕ) where
   unfolding readV2CpuInterface
   acknowledge-call exists = simp (valid shape s h, iar-at, found (enabledAt shape s) shape v exists)
 
-  pub end-call : (n : ℕ) → v < shape .count → n < 1020 → called (end v n) s ≡ went shape (end-of.endRetired shape v n s) s (end-of.ended shape v n s)
-  unfolding writeV2CpuInterface
-  end-call n exists below = simp (valid shape s h, eoir-at, decodes, found true shape v exists, number)
-    where
-      low : n % 2 ^ 32 % 1024 ≡ n
-      low = omega (arith, below)
+  -- a number written, as EOIR and DIR take it
+  module _ (n : ℕ) (exists : v < shape .count) (below : n < 1020) where
+    low : n % 2 ^ 32 % 1024 ≡ n
+    low = omega (arith, below)
 
-      decodes : ltb (n % 2 ^ 32 % 1024) 1020 ≡ true
-      decodes = rw low (lt-ltb n 1020 below)
+    decodes : ltb (n % 2 ^ 32 % 1024) 1020 ≡ true
+    decodes = rw low (lt-ltb n 1020 below)
 
-      number : end-of.decodedEoi (n % 2 ^ 32) ≡ Valid (record { 0 = n })
-      number = ap decoded low ∙ decoded-valid n below
+    number : end-of.decodedEoi (n % 2 ^ 32) ≡ Valid (record { 0 = n })
+    number = ap decoded low ∙ decoded-valid n below
+
+    pub end-call : called (end v n) s ≡ went shape (end-of.endRetired shape v n s) s (end-of.ended shape v n s)
+    unfolding writeV2CpuInterface
+    end-call = simp (valid shape s h, eoir-at, decodes, found true shape v exists, number)
+
+    pub deactivate-call : called (deactivate v n) s ≡ went shape (end-of.retired shape v n s) s (end-of.deactivated shape v n s)
+    unfolding writeV2CpuInterface
+    deactivate-call = simp (valid shape s h, dir-at, decodes, found true shape v exists, number)
 
   pub ring-call : (value t : ℕ) → v < shape .count → includes (sgiTarget (value % 2 ^ 32)) v t ≡ true → called (ring v value) s ≡ went shape 1023 s (writeSgir shape v (value % 2 ^ 32) s)
   unfolding writeV2Distributor

@@ -16,17 +16,19 @@ use Rattle.state.specs.declared.layout.InterfaceValue.the-variants.{Depth}
 use Rattle.state.specs.declared.words.Entry.{Entry}
 use Rattle.state.specs.Layout.{Slot, Count, Limit, DistributorControl, Interface, Sources, Private, Spi, Stack, Exists, Room}
 use Rattle.state.specs.Words.{wordAt, recordSlot, recordAt, sourcesAt}
+use Rattle.state.proofs.Accessors.{record-exists}
 use Rattle.state.proofs.Numbers.{Of}
-use Rattle.state.proofs.SlotKinds.{kindOf, kinds-apart, apart-record}
+use Rattle.state.proofs.SlotKinds.{kindOf, kinds-apart, record-apart, apart-record}
 use Rattle.state.proofs.Steps.{Agree}
 use Rattle.sgi.specs.Sgi.{sgiTarget, includes, pendSgi, sendSgi, writeSgir}
 use Rattle.sgi.proofs.Rings.{sgi-exists, sgi-sent, sgi-others, ring-sources, ring-pends}
 use Rattle.service.specs.Service.{depthAt, stackAt, isNewest, Served}
-use Rattle.service.proofs.Stacks.{stack-same}
+use Rattle.service.proofs.Stacks.{newest-some, popped-others, stack-same}
 use Rattle.acknowledge.specs.Acknowledge.{givenRecord, given, Givable}
-use Rattle.end.specs.End.{servedHere, onlyActive, eoiMode, retire, ended}
+use Rattle.end.specs.End.{servedHere, onlyActive, eoiMode, retire, deactivated, ended}
 use Rattle.delivery.specs.Delivery.{deactivate}
-use Rattle.delivery.proofs.Ended.{ended-others, ended-record}
+use Rattle.delivery.proofs.Deactivation.{deactivated-others, deactivated-record}
+use Rattle.delivery.proofs.Ended.{ended-others, ended-popped, ended-record}
 use Rattle.delivery.proofs.Given.{given-others, given-sgi}
 use Rattle.moves.proofs.Slots.{no-number}
 use Rattle.stories.proofs.Steady.{Enables, Steady}
@@ -159,16 +161,12 @@ module _ (v : ℕ) (r : InterruptRecord) where
       go false true = refl
       go false false = refl
 
--- the end leaves the enabling, and the sources
-module _ (shape : Shape) (t n : ℕ) (s : List ℕ) (h : Served shape t s) (newest : isNewest n (stackAt shape t s) ≡ true) (off : eoiMode shape t s ≡ false) (below : n < shape .limit) where
-  pub ended-steady : Steady shape t n s (ended shape t n s)
-  ended-steady = record {
-    enabling = record {
-      agree = λ y x c. ended-others shape t n s h newest y x (λ p. enables-away t t n y c (inl p)) (no-depth t t y c)
-          (kinds-apart y (Stack t (depthAt shape t s - 1)) (λ q. omega (arith, q, enables-kind t y c)));
-    };
-    enabled = ap (λ (q : InterruptRecord). q .enabled) (ended-record shape t n s h newest off below) ∙ deactivate-enabled t (recordAt shape t n s);
-    priority = ap (λ (q : InterruptRecord). q .priority) (ended-record shape t n s h newest off below) ∙ deactivate-priority t (recordAt shape t n s);
+-- the end leaves the enabling, the sources and, in EOI mode, the record
+module _ (shape : Shape) (t n : ℕ) (s : List ℕ) (h : Served shape t s) (newest : isNewest n (stackAt shape t s) ≡ true) (below : n < shape .limit) where
+  ended-enabling : Agree shape (Enables t) (ended shape t n s) s
+  ended-enabling = record {
+    agree = λ y x c. ended-others shape t n s h newest y x (λ p. enables-away t t n y c (inl p)) (no-depth t t y c)
+        (kinds-apart y (Stack t (depthAt shape t s - 1)) (λ q. omega (arith, q, enables-kind t y c)));
   }
 
   pub ended-sources : n < 16 → sourcesAt shape t n (ended shape t n s) ≡ sourcesAt shape t n s
@@ -176,3 +174,36 @@ module _ (shape : Shape) (t n : ℕ) (s : List ℕ) (h : Served shape t s) (newe
       ap (λ (w : ℕ). w % 256)
       (ended-others shape t n s h newest (Sources t n) (h .exists, sgi) (apart-record (Sources t n) t n (λ q. omega arith))
       (kinds-apart (Sources t n) (Interface t Depth) (λ q. omega arith)) (kinds-apart (Sources t n) (Stack t (depthAt shape t s - 1)) (λ q. omega arith)))
+
+  pub ended-steady : eoiMode shape t s ≡ false → Steady shape t n s (ended shape t n s)
+  ended-steady off = record {
+    enabling = ended-enabling;
+    enabled = ap (λ (q : InterruptRecord). q .enabled) (ended-record shape t n s h newest off below) ∙ deactivate-enabled t (recordAt shape t n s);
+    priority = ap (λ (q : InterruptRecord). q .priority) (ended-record shape t n s h newest off below) ∙ deactivate-priority t (recordAt shape t n s);
+  }
+
+  pub dropped-record : eoiMode shape t s ≡ true → recordAt shape t n (ended shape t n s) ≡ recordAt shape t n s
+  dropped-record on =
+      ap (recordAt shape t n) (ended-popped shape t n s h newest on)
+      ∙ ap recordOf
+      (popped-others shape t s h (newest-some shape t s n newest) (recordSlot t n) (record-exists shape t n (record { numbered = below; banked = λ low. h .exists }))
+      (record-apart t n (Interface t Depth) (λ q. omega arith)) (record-apart t n (Stack t (depthAt shape t s - 1)) (λ q. omega arith)))
+
+  pub dropped-steady : eoiMode shape t s ≡ true → Steady shape t n s (ended shape t n s)
+  dropped-steady on = record {
+    enabling = ended-enabling;
+    enabled = ap (λ (q : InterruptRecord). q .enabled) (dropped-record on);
+    priority = ap (λ (q : InterruptRecord). q .priority) (dropped-record on);
+  }
+
+-- so does DIR, but for the record
+module _ (shape : Shape) (t n : ℕ) (s : List ℕ) (room : Room shape s) (exists : t < shape .count) (below : n < shape .limit) where
+  pub deactivated-steady : Steady shape t n s (deactivated shape t n s)
+  deactivated-steady = record {
+    enabling = record { agree = λ y x c. deactivated-others shape t n s room exists y x (λ p. enables-away t t n y c (inl p)) };
+    enabled = ap (λ (q : InterruptRecord). q .enabled) (deactivated-record shape t n s room exists below) ∙ deactivate-enabled t (recordAt shape t n s);
+    priority = ap (λ (q : InterruptRecord). q .priority) (deactivated-record shape t n s room exists below) ∙ deactivate-priority t (recordAt shape t n s);
+  }
+
+  pub deactivated-sources : n < 16 → sourcesAt shape t n (deactivated shape t n s) ≡ sourcesAt shape t n s
+  deactivated-sources sgi = ap (λ (w : ℕ). w % 256) (deactivated-others shape t n s room exists (Sources t n) (exists, sgi) (apart-record (Sources t n) t n (λ q. omega arith)))

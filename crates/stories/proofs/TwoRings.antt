@@ -14,13 +14,15 @@ use Rattle.interrupt.specs.Record.{setPending}
 use Rattle.word.proofs.RecordWord.{decoded-in-range}
 use Rattle.state.specs.declared.layout.Shape.{Shape}
 use Rattle.state.specs.declared.words.Entry.{Entry}
+use Rattle.state.specs.Layout.{Room}
 use Rattle.state.specs.Words.{wordAt, recordSlot, RecordThere, recordAt, sourcesAt}
 use Rattle.sgi.specs.Sgi.{mergedSources, writeSgir}
 use Rattle.select.specs.Select.{entryFor}
 use Rattle.sgi.proofs.Rings.{joined-some}
 use Rattle.service.specs.Service.{depthAt, stackAt, isNewest, Served}
 use Rattle.acknowledge.specs.Acknowledge.{lowestSource, sourceOf, givenRecord, given, Givable}
-use Rattle.end.specs.End.{eoiMode, retired, ended, endRetired}
+use Rattle.end.specs.End.{eoiMode, retired, deactivated, ended, endRetired}
+use Rattle.delivery.proofs.Deactivation.{deactivated-record, deactivated-stacks}
 use Rattle.delivery.proofs.Ended.{ended-stack, ended-record, ended-retired}
 use Rattle.delivery.proofs.Given.{given-sources, given-stack}
 use Rattle.answer.specs.Answer.{Outcome, gave, went}
@@ -31,9 +33,9 @@ use Rattle.history.proofs.Always.{every-other-call}
 use Rattle.waiting.specs.Waiting.{bit}
 use Rattle.stories.specs.Stories as story
 use Rattle.stories.specs.Stories.{ring, acknowledge, end, Rings, Takes, NoneAhead, allElsewhere, TwoRings, Sleeping, lower, higher, BothGiven}
-use Rattle.stories.proofs.Calls.{ring-call, end-call, asleep-quiet}
+use Rattle.stories.proofs.Calls.{ring-call, end-call, deactivate-call, asleep-quiet}
 use Rattle.stories.proofs.Elsewhere.{elsewhere-controls, elsewhere-agrees}
-use Rattle.stories.proofs.Events.{rung-record, rung-sources, rung-stack, rung-steady, given-steady, given-left, given-active, retired-served, retired-idle, ended-steady, ended-sources}
+use Rattle.stories.proofs.Events.{rung-record, rung-sources, rung-stack, rung-steady, given-steady, given-left, given-active, retired-served, retired-idle, ended-steady, ended-sources, dropped-record, dropped-steady, deactivated-steady, deactivated-sources}
 use Rattle.stories.proofs.Sources.{pair, lower-first, higher-left, only-source, none-left}
 use Rattle.stories.proofs.Steady.{Steady, then-steady, eoi-same, takes-steady, agree-record, agree-sources, agree-stack, agree-steady}
 use Rattle.stories.proofs.Turns.{active-waits, is-number, given-call, given-offered, wake-bit}
@@ -65,11 +67,11 @@ module _ (h : TwoRings) (z : Sleeping h) where
     idle : recordAt shape t n s .active ≡ false
     sources : sourcesAt shape t n s ≡ x
 
-  -- given, with these sources left
-  record Serves (e : Entry) (r : InterruptRecord) (x : ℕ) (s : List ℕ) : Type 0 where
+  -- given, with these sources left, and this under service
+  record Serves (es : List Entry) (r : InterruptRecord) (x : ℕ) (s : List ℕ) : Type 0 where
     controls : Controls shape s
     steady : Steady shape t n base s
-    stack : stackAt shape t s ≡ e ∷ stackAt shape t base
+    stack : stackAt shape t s ≡ es
     pends : recordAt shape t n s ≡ setPending (givenRecord t r) true
     sources : sourcesAt shape t n s ≡ x
 
@@ -93,7 +95,7 @@ module _ (h : TwoRings) (z : Sleeping h) where
     sources = rw state (rung-sources shape t n u (value % 2 ^ 32) s room exists sgi fits (rings .numbered) (rings .named) ∙ ap (λ (k : ℕ). bitOr k (2 ^ u)) (w .sources));
   }
     where
-      room : Rattle.state.specs.Layout.Room shape s
+      room : Room shape s
       room = w .controls .lawful .in-range .state
 
       fits : u < 8
@@ -115,8 +117,8 @@ module _ (h : TwoRings) (z : Sleeping h) where
         sources = agree-sources shape t n s (run cs s) agrees exists sgi own ∙ w .sources;
       }
 
-  elsewhere-serves : (cs : List Call) (e : Entry) (r : InterruptRecord) (x : ℕ) (s : List ℕ) → allElsewhere t n cs ≡ true → Serves e r x s → Serves e r x (run cs s)
-  elsewhere-serves cs e r x s away w =
+  elsewhere-serves : (cs : List Call) (es : List Entry) (r : InterruptRecord) (x : ℕ) (s : List ℕ) → allElsewhere t n cs ≡ true → Serves es r x s → Serves es r x (run cs s)
+  elsewhere-serves cs es r x s away w =
       let agrees = elsewhere-agrees t n sgi shape cs away s (w .controls) in
       let own = there (w .controls) in
       record {
@@ -156,7 +158,7 @@ module _ (h : TwoRings) (z : Sleeping h) where
     state : called (acknowledge t) s .state ≡ given shape t taken s
     state = ap (λ (o : Outcome). o .state) gives
 
-    serves : (y : ℕ) → mergedSources false x (2 ^ lowestSource x) ≡ y → (y ≡ 0 → ⊥) → Serves taken (recordAt shape t n s) y (called (acknowledge t) s .state)
+    serves : (y : ℕ) → mergedSources false x (2 ^ lowestSource x) ≡ y → (y ≡ 0 → ⊥) → Serves (taken ∷ stackAt shape t base) (recordAt shape t n s) y (called (acknowledge t) s .state)
     serves y left more = record {
       controls = every-other-call shape (acknowledge t) refl s (w .controls);
       steady = then-steady (w .steady) (rw state (given-steady shape t taken s given-lent sgi));
@@ -168,16 +170,16 @@ module _ (h : TwoRings) (z : Sleeping h) where
         byte : taken .priority .0 < 256
         byte = decoded-in-range (wordAt shape (recordSlot t n) s) .priority-byte
 
-  -- its end leaves it waiting with what is left
-  module _ (e : Entry) (r : InterruptRecord) (x : ℕ) (s : List ℕ) (is : e .intid .0 ≡ n) (w : Serves e r x s) where
+  -- EOIR: the stack is as at first
+  module _ (e : Entry) (r : InterruptRecord) (x : ℕ) (s : List ℕ) (is : e .intid .0 ≡ n) (w : Serves (e ∷ stackAt shape t base) r x s) where
     lent : Served shape t s
     lent = served shape s (w .controls .lawful) t exists
 
     newest : isNewest n (stackAt shape t s) ≡ true
     newest = rw (w .stack) (eq-eqb (e .intid .0) n is)
 
-    off : eoiMode shape t s ≡ false
-    off = eoi-same (w .steady) exists ∙ z .no-eoi-mode
+    mode : (b : Bool) → eoiMode shape t base ≡ b → eoiMode shape t s ≡ b
+    mode b p = eoi-same (w .steady) exists ∙ p
 
     ends : called (end t n) s ≡ went shape (endRetired shape t n s) s (ended shape t n s)
     ends = end-call shape s (w .controls) t n exists (omega (arith, sgi))
@@ -185,20 +187,55 @@ module _ (h : TwoRings) (z : Sleeping h) where
     after : called (end t n) s .state ≡ ended shape t n s
     after = ap (λ (o : Outcome). o .state) ends
 
-    retires : called (end t n) s .retired ≡ n
+    -- without EOI mode it is retired and waits with what is left
+    end-retires : eoiMode shape t base ≡ false → called (end t n) s .retired ≡ n
     unfolding retired
-    retires =
+    end-retires off =
         ap (λ (o : Outcome). o .retired) ends
-        ∙ ended-retired shape t n s lent newest off
+        ∙ ended-retired shape t n s lent newest (mode false off)
         ∙ simp (lt-ltb n (shape .limit) (numbered (w .controls)), w .pends, retired-served t r)
 
-    waits-again : Waits x (called (end t n) s .state)
-    waits-again = record {
+    end-waits : eoiMode shape t base ≡ false → Waits x (called (end t n) s .state)
+    end-waits off = record {
       controls = every-other-call shape (end t n) refl s (w .controls);
-      steady = then-steady (w .steady) (rw after (ended-steady shape t n s lent newest off (numbered (w .controls))));
+      steady = then-steady (w .steady) (rw after (ended-steady shape t n s lent newest (numbered (w .controls)) (mode false off)));
       stack = rw after (ended-stack shape t n s lent newest e (stackAt shape t base) (w .stack));
-      idle = rw after (ap (λ (q : InterruptRecord). q .active) (ended-record shape t n s lent newest off (numbered (w .controls))) ∙ rw (w .pends) (retired-idle t r));
-      sources = rw after (ended-sources shape t n s lent newest off (numbered (w .controls)) sgi ∙ w .sources);
+      idle = rw after (ap (λ (q : InterruptRecord). q .active) (ended-record shape t n s lent newest (mode false off) (numbered (w .controls))) ∙ rw (w .pends) (retired-idle t r));
+      sources = rw after (ended-sources shape t n s lent newest (numbered (w .controls)) sgi ∙ w .sources);
+    }
+
+    -- with it only the priority is dropped
+    end-drops : eoiMode shape t base ≡ true → Serves (stackAt shape t base) r x (called (end t n) s .state)
+    end-drops on = record {
+      controls = every-other-call shape (end t n) refl s (w .controls);
+      steady = then-steady (w .steady) (rw after (dropped-steady shape t n s lent newest (numbered (w .controls)) (mode true on)));
+      stack = rw after (ended-stack shape t n s lent newest e (stackAt shape t base) (w .stack));
+      pends = rw after (dropped-record shape t n s lent newest (numbered (w .controls)) (mode true on) ∙ w .pends);
+      sources = rw after (ended-sources shape t n s lent newest (numbered (w .controls)) sgi ∙ w .sources);
+    }
+
+  -- DIR then retires it
+  module _ (r : InterruptRecord) (x : ℕ) (s : List ℕ) (w : Serves (stackAt shape t base) r x s) where
+    room : Room shape s
+    room = w .controls .lawful .in-range .state
+
+    dirs : called (story.deactivate t n) s ≡ went shape (retired shape t n s) s (deactivated shape t n s)
+    dirs = deactivate-call shape s (w .controls) t n exists (omega (arith, sgi))
+
+    dir-state : called (story.deactivate t n) s .state ≡ deactivated shape t n s
+    dir-state = ap (λ (o : Outcome). o .state) dirs
+
+    dir-retires : called (story.deactivate t n) s .retired ≡ n
+    unfolding retired
+    dir-retires = ap (λ (o : Outcome). o .retired) dirs ∙ simp (lt-ltb n (shape .limit) (numbered (w .controls)), w .pends, retired-served t r)
+
+    dir-waits : Waits x (called (story.deactivate t n) s .state)
+    dir-waits = record {
+      controls = every-other-call shape (story.deactivate t n) refl s (w .controls);
+      steady = then-steady (w .steady) (rw dir-state (deactivated-steady shape t n s room exists (numbered (w .controls))));
+      stack = rw dir-state (deactivated-stacks shape t n s room exists t exists (deep (w .controls)) ∙ w .stack);
+      idle = rw dir-state (ap (λ (q : InterruptRecord). q .active) (deactivated-record shape t n s room exists (numbered (w .controls))) ∙ rw (w .pends) (retired-idle t r));
+      sources = rw dir-state (deactivated-sources shape t n s room exists (numbered (w .controls)) sgi ∙ w .sources);
     }
 
   -- the story
@@ -255,15 +292,35 @@ module _ (h : TwoRings) (z : Sleeping h) where
   left = ap (λ (k : ℕ). mergedSources false (pair (h .one) (h .other)) (2 ^ k)) lowest
       ∙ higher-left (h .one) (h .other) (few (h .one) (z .one-exists)) (few (h .other) (z .other-exists)) (z .two)
 
-  in-service : Serves first (recordAt shape t n (story.bothWait h)) (2 ^ high) (story.serving h)
+  abbrev old : InterruptRecord
+  old = recordAt shape t n (story.bothWait h)
+
+  in-service : Serves (first ∷ stackAt shape t base) old (2 ^ high) (story.serving h)
   in-service =
-      elsewhere-serves (h .meanwhile₃) first (recordAt shape t n (story.bothWait h)) (2 ^ high) (story.firstRead h .state) (z .elsewhere₃)
+      elsewhere-serves (h .meanwhile₃) (first ∷ stackAt shape t base) old (2 ^ high) (story.firstRead h .state) (z .elsewhere₃)
       (serves _ _ (joined-some (bitOr 0 (2 ^ h .one)) (h .other)) both-wait (z .none-ahead₁) (2 ^ high) left high-some)
 
+  -- in either mode it is retired, and the other ring waits
+  record Retires (o : Outcome) : Type 0 where
+    number : o .retired ≡ n
+    waits : Waits (2 ^ high) (o .state)
+
+  drops : story.inEoiMode h ≡ true → Serves (stackAt shape t base) old (2 ^ high) (story.dropped h)
+  drops on = elsewhere-serves (h .meanwhile₄) (stackAt shape t base) old (2 ^ high) (story.ended h .state) (z .elsewhere₄) (end-drops first old (2 ^ high) (story.serving h) refl in-service on)
+
+  retires : Retires (story.deactivated h)
+  retires = go (story.inEoiMode h) refl
+    where
+      go : (b : Bool) → story.inEoiMode h ≡ b → Retires (cond b (called (story.deactivate t n) (story.dropped h)) (story.ended h))
+      go true on = record { number = dir-retires old (2 ^ high) (story.dropped h) (drops on); waits = dir-waits old (2 ^ high) (story.dropped h) (drops on) }
+      go false off = record { number = end-retires first old (2 ^ high) (story.serving h) refl in-service off; waits = end-waits first old (2 ^ high) (story.serving h) refl in-service off }
+
+  -- while it is served no acknowledge gives it
+  not-yet : (es : List Entry) (s : List ℕ) → Serves es old (2 ^ high) s → (source : ℕ) → called (acknowledge t) s .value ≡ n + 1024 * source → ⊥
+  not-yet es s w = active-waits shape t n s (w .controls) exists (omega (arith, sgi)) (ap (λ (q : InterruptRecord). q .active) (w .pends) ∙ given-active t old)
+
   one-waits : Waits (2 ^ high) (story.oneWaits h)
-  one-waits =
-      elsewhere-waits (h .meanwhile₄) _ _ (z .elsewhere₄)
-      (waits-again first (recordAt shape t n (story.bothWait h)) (2 ^ high) _ refl in-service)
+  one-waits = elsewhere-waits (h .meanwhile₅) (2 ^ high) (story.deactivated h .state) (z .elsewhere₅) (retires .waits)
 
   second-gives : story.secondRead h ≡ gave (n + 1024 * lowestSource (2 ^ high)) (given shape t (entryFor shape t (story.oneWaits h) n) (story.oneWaits h))
   second-gives = gives _ _ high-some one-waits (z .none-ahead₂)
@@ -286,8 +343,9 @@ module _ (h : TwoRings) (z : Sleeping h) where
     wakes = woken-once;
     first-accepted = ap (λ (o : Outcome). o .refusal) first-gives;
     first-given = ap (λ (o : Outcome). o .value) first-gives ∙ ap (λ (k : ℕ). n + 1024 * k) lowest;
-    one-at-a-time = active-waits shape t n (story.serving h) (in-service .controls) exists (omega (arith, sgi)) (ap (λ (q : InterruptRecord). q .active) (in-service .pends) ∙ given-active t (recordAt shape t n (story.bothWait h)));
-    retired = retires first (recordAt shape t n (story.bothWait h)) (2 ^ high) _ refl in-service;
+    one-at-a-time = not-yet (first ∷ stackAt shape t base) (story.serving h) in-service;
+    one-until-deactivated = λ on. not-yet (stackAt shape t base) (story.dropped h) (drops on);
+    retired = retires .number;
     second-accepted = ap (λ (o : Outcome). o .refusal) second-gives;
     second-given = ap (λ (o : Outcome). o .value) second-gives ∙ ap (λ (k : ℕ). n + 1024 * k) (only-source high high-few);
     none-left =

@@ -24,7 +24,7 @@ use Rattle.lawful.specs.Lawful.{Controls}
 use Rattle.history.specs.History.{Call, Setup, ReadDistributor, WriteDistributor, ReadCpuInterface, WriteCpuInterface, SetLevel, Pulse, called, run}
 use Rattle.waiting.specs.Waiting.{bit, meets, takesPending, never}
 
--- a guest's calls: a ring (a write to SGIR), an acknowledge (a read of IAR), an end (a write to EOIR)
+-- a guest's calls: a ring (a write to SGIR), an acknowledge (a read of IAR), an end (a write to EOIR), a deactivation (a write to DIR)
 abbrev pub ring : ℕ → ℕ → Call
 ring v value = WriteDistributor v 0xf00 Dword value
 
@@ -33,6 +33,9 @@ acknowledge v = ReadCpuInterface v 0x0c Dword
 
 abbrev pub end : ℕ → ℕ → Call
 end v n = WriteCpuInterface v 0x10 Dword n
+
+abbrev pub deactivate : ℕ → ℕ → Call
+deactivate v n = WriteCpuInterface v 0x1000 Dword n
 
 -- what v writes rings the SGI n at t
 pub record Rings (v value t n : ℕ) : Type 0 where
@@ -87,8 +90,8 @@ abbrev pub allElsewhere : ℕ → ℕ → List Call → Bool
 allElsewhere t n [] = true
 allElsewhere t n (c ∷ cs) = elsewhere t n c && allElsewhere t n cs
 
--- Two vCPUs, `one` and then `other`, ring the same SGI at the same target, which then acknowledges, ends it, and acknowledges again. Others go
--- on all the while.
+-- Two vCPUs, `one` and then `other`, ring the same SGI at the same target, which then acknowledges, ends it, in EOI mode deactivates it too, and
+-- acknowledges again. Others go on all the while.
 pub record TwoRings : Type 0 where
   pub shape : Shape
   pub words : List ℕ
@@ -102,6 +105,7 @@ pub record TwoRings : Type 0 where
   pub meanwhile₂ : List Call
   pub meanwhile₃ : List Call
   pub meanwhile₄ : List Call
+  pub meanwhile₅ : List Call
 
 abbrev pub oneRings : TwoRings → Outcome
 oneRings h = called (ring (h .one) (h .one-writes)) (h .words)
@@ -121,14 +125,23 @@ serving h = run (h .meanwhile₃) (firstRead h .state)
 abbrev pub ended : TwoRings → Outcome
 ended h = called (end (h .target) (h .sgi)) (serving h)
 
+abbrev pub dropped : TwoRings → List ℕ
+dropped h = run (h .meanwhile₄) (ended h .state)
+
+abbrev pub inEoiMode : TwoRings → Bool
+inEoiMode h = eoiMode (h .shape) (h .target) (h .words)
+
+abbrev pub deactivated : TwoRings → Outcome
+deactivated h = cond (inEoiMode h) (called (deactivate (h .target) (h .sgi)) (dropped h)) (ended h)
+
 abbrev pub oneWaits : TwoRings → List ℕ
-oneWaits h = run (h .meanwhile₄) (ended h .state)
+oneWaits h = run (h .meanwhile₅) (deactivated h .state)
 
 abbrev pub secondRead : TwoRings → Outcome
 secondRead h = called (acknowledge (h .target)) (oneWaits h)
 
--- the target sleeps (an acknowledge would answer 1023), can take the SGI, has it not rung, and does not use EOI mode; the other calls are
--- elsewhere, and when it acknowledges nothing more urgent waits for it
+-- the target sleeps (an acknowledge would answer 1023), can take the SGI, and has it not rung; the other calls are elsewhere, and when it
+-- acknowledges nothing more urgent waits for it
 pub record Sleeping (h : TwoRings) : Type 0 where
   pub controls : Controls (h .shape) (h .words)
   pub target-exists : h .target < h .shape .count
@@ -141,11 +154,11 @@ pub record Sleeping (h : TwoRings) : Type 0 where
   pub asleep : called (acknowledge (h .target)) (h .words) .value ≡ 1023
   pub takes : Takes (h .shape) (h .target) (h .sgi) (h .words)
   pub unrung : sourcesAt (h .shape) (h .target) (h .sgi) (h .words) ≡ 0
-  pub no-eoi-mode : eoiMode (h .shape) (h .target) (h .words) ≡ false
   pub elsewhere₁ : allElsewhere (h .target) (h .sgi) (h .meanwhile₁) ≡ true
   pub elsewhere₂ : allElsewhere (h .target) (h .sgi) (h .meanwhile₂) ≡ true
   pub elsewhere₃ : allElsewhere (h .target) (h .sgi) (h .meanwhile₃) ≡ true
   pub elsewhere₄ : allElsewhere (h .target) (h .sgi) (h .meanwhile₄) ≡ true
+  pub elsewhere₅ : allElsewhere (h .target) (h .sgi) (h .meanwhile₅) ≡ true
   pub none-ahead₁ : NoneAhead (h .shape) (h .target) (h .sgi) (bothWait h)
   pub none-ahead₂ : NoneAhead (h .shape) (h .target) (h .sgi) (oneWaits h)
 
@@ -155,13 +168,15 @@ lower x y = cond (ltb x y) x y
 abbrev pub higher : ℕ → ℕ → ℕ
 higher x y = cond (ltb x y) y x
 
--- the first ring wakes the target; it is given both, each with its source, the second not before the first is ended; and then none is left
+-- the first ring wakes the target; it is given both, each with its source, the second not before the first is ended, in EOI mode deactivated; and
+-- then none is left
 pub record BothGiven (h : TwoRings) : Type 0 where
   pub wakes : bit (h .target) (oneRings h .wake) ≡ true
   pub first-accepted : firstRead h .refusal ≡ 0
   pub first-given : firstRead h .value ≡ h .sgi + 1024 * lower (h .one) (h .other)
   pub one-at-a-time : (source : ℕ) → called (acknowledge (h .target)) (serving h) .value ≡ h .sgi + 1024 * source → ⊥
-  pub retired : ended h .retired ≡ h .sgi
+  pub one-until-deactivated : inEoiMode h ≡ true → (source : ℕ) → called (acknowledge (h .target)) (dropped h) .value ≡ h .sgi + 1024 * source → ⊥
+  pub retired : deactivated h .retired ≡ h .sgi
   pub second-accepted : secondRead h .refusal ≡ 0
   pub second-given : secondRead h .value ≡ h .sgi + 1024 * higher (h .one) (h .other)
   pub none-left : sourcesAt (h .shape) (h .target) (h .sgi) (secondRead h .state) ≡ 0
