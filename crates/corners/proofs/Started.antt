@@ -8,7 +8,7 @@ use native.Mathlib.Nat.{zero-add}
 use native.Mathlib.Omega.{arith}
 use lib.Dec.{leb}
 use lib.ListN.{length, set}
-use Rattle.interrupt.specs.Record.{newRecord, startingRecord, setPending, stateOf, setState, markInflight, synchronizeInflight, held, finishInflight, deactivateInflight, setPriority, setCpuTargetMask, setOwner, complete}
+use Rattle.interrupt.specs.Record.{newRecord, startingRecord, setEnabled, setPending, setActive, stateOf, setState, markInflight, synchronizeInflight, cancelInflight, held, finishInflight, deactivateInflight, setPriority, setTrigger, setCpuTargetMask, setOwner, setLevel, pulse, complete}
 use Rattle.interrupt.specs.Types.{decoded, startingTrigger}
 use Rattle.word.specs.Word.{recordOf, wordOf}
 use Rattle.word.specs.Fields.{packed, gathered}
@@ -21,9 +21,10 @@ use Rattle.state.specs.declared.layout.Shape.{Shape}
 use Rattle.state.specs.Layout.{size, interfaceOf, headerSlot, vcpuSlot, slotAt}
 use Rattle.state.specs.Words.{recordSlot}
 use Rattle.state.specs.Lent.{inLimits, shaped, limited, validated}
+use Rattle.bits.specs.Bits.{readNumber, readBits, clearActive, writeNumber, writeBits}
 use Rattle.targets.specs.Targets.{readTarget, writeTarget}
-use Rattle.sgi.specs.Sgi.{pendSgi, sgiTarget, sendSgi, writeSgir}
-use Rattle.distributor.specs.Bytes.{writePriority, readBytes, writeBytes}
+use Rattle.sgi.specs.Sgi.{writeSources, pendSgi, sgiTarget, sendSgi, writeSgir}
+use Rattle.distributor.specs.Bytes.{readPriority, writePriority, readBytes, writeBytes}
 use Rattle.select.specs.Select.{candidate, bestBelow, highestPending}
 use Rattle.service.specs.Service.{stackTo, pushed, popped, dropped}
 use Rattle.acknowledge.specs.Acknowledge.{offer, lowestFrom, sourceOf, pendIfLeft, sourceTaken, givenRecord, given, answered, taken}
@@ -32,6 +33,7 @@ use Rattle.wake.specs.Wake.{wakeSet}
 use Rattle.controller.specs.Start as start
 use Rattle.distributor_frame.specs.DistributorFrame.{readV2Distributor, writeV2Distributor}
 use Rattle.cpu_interface_frame.specs.CpuInterfaceFrame.{readV2CpuInterface, writeV2CpuInterface}
+use Rattle.input.specs.Input.{inputOf, deviceInput}
 use Rattle.answer.specs.Answer.{Outcome, gave}
 use Rattle.history.specs.History.{Call, called}
 
@@ -66,5 +68,5 @@ setup-started count limit s within long = simp (within, long, fresh-started (sha
 
 -- a call; where this unfolds, so does all that the calls of a computed history go by
 unfoldable pub computing : Call → List ℕ → Outcome
-unfolding upTo limited newRecord startingRecord setPending stateOf setState markInflight synchronizeInflight held finishInflight deactivateInflight setPriority setCpuTargetMask setOwner complete decoded startingTrigger recordOf wordOf packed gathered firstNumber isPrivate placeAt unfit single bitWord byteArray locateInFrame locateDistributor registers registerIn registerAt locateCpuInterface ranges rangeIn rangeAt everyBelow interfaceOf headerSlot vcpuSlot slotAt recordSlot validated readTarget writeTarget pendSgi sgiTarget sendSgi writeSgir writePriority readBytes writeBytes candidate bestBelow highestPending stackTo pushed popped dropped offer lowestFrom sourceOf pendIfLeft sourceTaken givenRecord given answered taken retire deactivated retired ended endRetired wakeSet readV2Distributor writeV2Distributor readV2CpuInterface writeV2CpuInterface
+unfolding upTo limited newRecord startingRecord setEnabled setPending setActive stateOf setState markInflight synchronizeInflight cancelInflight held finishInflight deactivateInflight setPriority setTrigger setCpuTargetMask setOwner setLevel pulse complete decoded startingTrigger recordOf wordOf packed gathered firstNumber isPrivate placeAt unfit single bitWord byteArray locateInFrame locateDistributor registers registerIn registerAt locateCpuInterface ranges rangeIn rangeAt everyBelow interfaceOf headerSlot vcpuSlot slotAt recordSlot validated readNumber readBits clearActive writeNumber writeBits readTarget writeTarget writeSources pendSgi sgiTarget sendSgi writeSgir readPriority writePriority readBytes writeBytes candidate bestBelow highestPending stackTo pushed popped dropped offer lowestFrom sourceOf pendIfLeft sourceTaken givenRecord given answered taken retire deactivated retired ended endRetired wakeSet readV2Distributor writeV2Distributor readV2CpuInterface writeV2CpuInterface inputOf deviceInput
 computing c s = called c s

@@ -1,0 +1,174 @@
+-- The hypotheses of each story hold of its example, computed, and so what the story promises happens there. Assumes nothing.
+use mathlib.Core.Path.{_≡_, refl, sym, ap, subst}
+use mathlib.Core.Bool.{Bool, true, false, not, _||_, false≢true}
+use mathlib.Core.List.{List}
+use Prim.Native.Nat.{ℕ}
+use native.Mathlib.Omega.{arith}
+use lib.Dec.{leb}
+use lib.ListN.{length}
+use borrow.Author.Tests.{ltb-true}
+use Rattle.state.specs.declared.layout.Shape.{Shape}
+use Rattle.state.specs.Lent.{shaped, inLimits}
+use Rattle.state.specs.Layout.{size}
+use Rattle.state.specs.Loop.{everyBelow}
+use Rattle.state.proofs.Tests.{every-at}
+use Rattle.select.specs.Select.{candidate}
+use Rattle.answer.specs.Answer.{Outcome, gave}
+use Rattle.lawful.specs.Lawful.{Controls}
+use Rattle.history.specs.History.{Call, Setup, called, run, noSetup}
+use Rattle.history.proofs.Always.{a-fresh-controller, same-controller}
+use Rattle.corners.specs.Corners.{zeros}
+use Rattle.corners.proofs.Started.{started, setup-started, computing}
+use Rattle.stories.specs.Stories.{Takes, ahead, NoneAhead, TwoRings, bothWait, firstRead, oneWaits, secondRead, Sleeping, PulseInFlight, turn, read, Served}
+use Rattle.stories.proofs.TwoRings.{both-given}
+use Rattle.stories.proofs.PulseInFlight.{given-again}
+use Rattle.story_examples.specs.Examples.{lent, after, beforeRings, twoRingsFrom, twoRings, beforePulse, pulseInFlightFrom, pulseInFlight}
+
+-- the words after a setup and calls, from the state that setup leaves built once
+module _ (count limit : ℕ) (cs : List Call) where
+  abbrev begun : List ℕ
+  begun = run cs (started (shaped count limit) (lent count limit))
+
+  module _ (within : inLimits count limit ≡ true) (long : leb (size (shaped count limit)) (length (lent count limit)) ≡ true) where
+    set-up : called (Setup count limit) (lent count limit) ≡ gave 0 (started (shaped count limit) (lent count limit))
+    set-up = setup-started count limit (lent count limit) within long
+
+    same-words : begun ≡ after count limit cs
+    unfolding run
+    same-words = ap (λ (o : Outcome). run cs (o .state)) (sym set-up)
+
+    -- a controller, by what holds of every history
+    controls : noSetup cs ≡ true → Controls (shaped count limit) begun
+    controls others =
+        same-controller (shaped count limit) cs others (started (shaped count limit) (lent count limit))
+        (subst (λ (o : Outcome). Controls (shaped count limit) (o .state)) set-up
+        (a-fresh-controller count limit (lent count limit) (ap (λ (o : Outcome). o .refusal) set-up)))
+
+-- nothing goes before n, tested number by number
+abbrev tested : Shape → ℕ → ℕ → List ℕ → Bool
+tested shape v n s = everyBelow (λ m. not (candidate shape v s m) || not (ahead shape v s m n)) (shape .limit)
+
+none-ahead : (shape : Shape) (v n : ℕ) (s : List ℕ) → tested shape v n s ≡ true → NoneAhead shape v n s
+none-ahead shape v n s e m below c =
+    go (candidate shape v s m) (ahead shape v s m n) c (every-at (λ k. not (candidate shape v s k) || not (ahead shape v s k n)) (shape .limit) m e below)
+  where
+    go : (a b : Bool) → a ≡ true → (not a || not b) ≡ true → b ≡ false
+    go a false p q = refl
+    go true true p q = absurd (false≢true q)
+    go false true p q = absurd (false≢true p)
+
+-- two rings
+abbrev asleep : List ℕ
+asleep = begun 3 34 beforeRings
+
+abbrev rings : TwoRings
+rings = twoRingsFrom asleep
+
+rings-controls : Controls (shaped 3 34) asleep
+unfolding zeros beforeRings
+rings-controls = controls 3 34 beforeRings refl refl refl
+
+rings-takes : Takes (shaped 3 34) 2 3 asleep
+unfolding run zeros beforeRings computing
+rings-takes = record {
+  on = refl;
+  for-it = refl;
+  enabled = refl;
+  idle = refl;
+  unmasked = ltb-true _ _ refl;
+  preempts = ltb-true _ _ refl;
+}
+
+first-turn : tested (shaped 3 34) 2 3 (bothWait rings) ≡ true
+unfolding run zeros beforeRings twoRingsFrom computing
+first-turn = refl
+
+second-turn : tested (shaped 3 34) 2 3 (oneWaits rings) ≡ true
+unfolding run zeros beforeRings twoRingsFrom computing
+second-turn = refl
+
+rings-sleeping : Sleeping rings
+unfolding run zeros beforeRings twoRingsFrom computing
+rings-sleeping = record {
+  controls = rings-controls;
+  target-exists = omega arith;
+  one-exists = omega arith;
+  other-exists = omega arith;
+  two = λ e. omega (arith, e);
+  is-sgi = omega arith;
+  one-rings = record { numbered = refl; named = refl };
+  other-rings = record { numbered = refl; named = refl };
+  asleep = refl;
+  takes = rings-takes;
+  unrung = refl;
+  no-eoi-mode = refl;
+  elsewhere₁ = refl;
+  elsewhere₂ = refl;
+  elsewhere₃ = refl;
+  elsewhere₄ = refl;
+  none-ahead₁ = none-ahead (shaped 3 34) 2 3 (bothWait rings) first-turn;
+  none-ahead₂ = none-ahead (shaped 3 34) 2 3 (oneWaits rings) second-turn;
+}
+
+pub sleeping : Sleeping twoRings
+unfolding zeros
+sleeping = subst (λ (s : List ℕ). Sleeping (twoRingsFrom s)) (same-words 3 34 beforeRings refl refl) rings-sleeping
+
+pub first-read : firstRead twoRings .value ≡ 3
+unfolding twoRingsFrom
+first-read = both-given twoRings sleeping .first-given
+
+pub second-read : secondRead twoRings .value ≡ 0x403
+unfolding twoRingsFrom
+second-read = both-given twoRings sleeping .second-given
+
+-- a pulse in flight
+abbrev inService : List ℕ
+inService = begun 1 34 beforePulse
+
+abbrev pulses : PulseInFlight
+pulses = pulseInFlightFrom inService
+
+pulses-controls : Controls (shaped 1 34) inService
+unfolding zeros beforePulse
+pulses-controls = controls 1 34 beforePulse refl refl refl
+
+pulses-takes : Takes (shaped 1 34) 0 33 (turn pulses)
+unfolding run zeros beforePulse pulseInFlightFrom computing
+pulses-takes = record {
+  on = refl;
+  for-it = refl;
+  enabled = refl;
+  idle = refl;
+  unmasked = ltb-true _ _ refl;
+  preempts = ltb-true _ _ refl;
+}
+
+its-turn : tested (shaped 1 34) 0 33 (turn pulses) ≡ true
+unfolding run zeros beforePulse pulseInFlightFrom computing
+its-turn = refl
+
+pulses-served : Served pulses
+unfolding run zeros beforePulse pulseInFlightFrom computing
+pulses-served = record {
+  controls = pulses-controls;
+  there = record { numbered = omega arith; banked = λ e. omega (arith, e) };
+  no-sgi = omega arith;
+  in-flight = refl;
+  its-retirer = refl;
+  retired = refl;
+  untaken₁ = refl;
+  untaken₂ = refl;
+  reader-exists = omega arith;
+  its-reader = refl;
+  takes = pulses-takes;
+  none-ahead = none-ahead (shaped 1 34) 0 33 (turn pulses) its-turn;
+}
+
+pub served : Served pulseInFlight
+unfolding zeros
+served = subst (λ (s : List ℕ). Served (pulseInFlightFrom s)) (same-words 1 34 beforePulse refl refl) pulses-served
+
+pub read-again : read pulseInFlight .value ≡ 33
+unfolding pulseInFlightFrom
+read-again = given-again pulseInFlight served .given-again

@@ -1,0 +1,2 @@
+-- The hypotheses of the stories hold of the examples.
+pub mod Computed

@@ -1,0 +1,81 @@
+-- An example of each story of crates/stories, so that a reader need not wonder whether its hypotheses can hold. Each starts from a fresh
+-- controller, in words that were 0 and are just enough.
+use mathlib.Core.List.{List, [], _∷_}
+use Prim.Native.Nat.{ℕ}
+use Rattle.register.specs.declared.frame.AccessWidth.the-variants.{Byte, Dword}
+use Rattle.state.specs.Layout.{size}
+use Rattle.state.specs.Lent.{shaped}
+use Rattle.history.specs.History.{Call, Setup, ReadDistributor, WriteDistributor, WriteCpuInterface, Pulse, run}
+use Rattle.corners.specs.Corners.{zeros}
+use Rattle.stories.specs.Stories.{ring, acknowledge, TwoRings, PulseInFlight}
+
+abbrev pub lent : ℕ → ℕ → List ℕ
+lent count limit = zeros (size (shaped count limit))
+
+-- the words after a setup and calls
+abbrev pub after : ℕ → ℕ → List Call → List ℕ
+after count limit cs = run (Setup count limit ∷ cs) (lent count limit)
+
+-- Two rings. Before them the Distributor is turned on, and the interface of vCPU 2, which masks nothing and has nothing to do.
+unfoldable pub beforeRings : List Call
+beforeRings =
+    WriteDistributor 0 0x000 Dword 1
+    ∷ WriteCpuInterface 2 0x00 Dword 1
+    ∷ WriteCpuInterface 2 0x04 Dword 255
+    ∷ []
+
+-- vCPU 1 rings SGI 3 at it, and vCPU 0, whose source is the lower, rings second. In between SPI 33, which has no target, is pulsed, and vCPU 0
+-- reads TYPER and turns its own interface on. After both it rings SGI 4 at vCPUs 0 and 2: at vCPU 2 that one waits behind SGI 3. vCPU 0
+-- acknowledges its own SGI 4 while vCPU 2 serves SGI 3, and ends it once vCPU 2 has ended.
+unfoldable pub twoRingsFrom : List ℕ → TwoRings
+twoRingsFrom s = record {
+  shape = shaped 3 34;
+  words = s;
+  target = 2;
+  sgi = 3;
+  one = 1;
+  other = 0;
+  one-writes = 0x00040003;
+  other-writes = 0x00040003;
+  meanwhile₁ = Pulse 1 33 ∷ ReadDistributor 0 0x004 Dword ∷ WriteCpuInterface 0 0x00 Dword 1 ∷ WriteCpuInterface 0 0x04 Dword 255 ∷ [];
+  meanwhile₂ = ring 0 0x00050004 ∷ [];
+  meanwhile₃ = acknowledge 0 ∷ [];
+  meanwhile₄ = WriteCpuInterface 0 0x10 Dword 4 ∷ [];
+}
+
+abbrev pub twoRings : TwoRings
+twoRings = twoRingsFrom (after 3 34 beforeRings)
+
+-- A pulse in flight. Before it all is turned on; SPI 33 is made edge, vCPU 0's and enabled, and SGI 5 less urgent than it; SPI 33 is pulsed a
+-- first time and acknowledged.
+unfoldable pub beforePulse : List Call
+beforePulse =
+    WriteDistributor 0 0x000 Dword 1
+    ∷ WriteCpuInterface 0 0x00 Dword 1
+    ∷ WriteCpuInterface 0 0x04 Dword 255
+    ∷ WriteDistributor 0 0xc08 Dword 0x8
+    ∷ WriteDistributor 0 0x821 Byte 1
+    ∷ WriteDistributor 0 0x405 Byte 0xa0
+    ∷ WriteDistributor 0 0x104 Dword 0x2
+    ∷ Pulse 0 33
+    ∷ acknowledge 0
+    ∷ []
+
+-- SPI 33 is pulsed again. vCPU 0, which still serves it, acknowledges in vain and rings SGI 5 at itself; it writes 33 to EOIR; it reads ISPENDR.
+unfoldable pub pulseInFlightFrom : List ℕ → PulseInFlight
+pulseInFlightFrom s = record {
+  shape = shaped 1 34;
+  words = s;
+  vcpu = 0;
+  interrupt = 33;
+  meanwhile₁ = acknowledge 0 ∷ ring 0 0x02000005 ∷ [];
+  retirer = 0;
+  offset = 0x10;
+  width = Dword;
+  writes = 33;
+  meanwhile₂ = ReadDistributor 0 0x204 Dword ∷ [];
+  reader = 0;
+}
+
+abbrev pub pulseInFlight : PulseInFlight
+pulseInFlight = pulseInFlightFrom (after 1 34 beforePulse)
