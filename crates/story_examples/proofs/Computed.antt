@@ -101,11 +101,11 @@ rings-sleeping = record {
   asleep = refl;
   takes = rings-takes;
   unrung = refl;
-  no-eoi-mode = refl;
   elsewhere₁ = refl;
   elsewhere₂ = refl;
   elsewhere₃ = refl;
   elsewhere₄ = refl;
+  elsewhere₅ = refl;
   none-ahead₁ = none-ahead (shaped 3 34) 2 3 (bothWait rings) first-turn;
   none-ahead₂ = none-ahead (shaped 3 34) 2 3 (oneWaits rings) second-turn;
 }

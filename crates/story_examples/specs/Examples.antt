@@ -5,7 +5,7 @@ use Prim.Native.Nat.{ℕ}
 use Rattle.register.specs.declared.frame.AccessWidth.the-variants.{Byte, Dword}
 use Rattle.state.specs.Layout.{size}
 use Rattle.state.specs.Lent.{shaped}
-use Rattle.history.specs.History.{Call, Setup, ReadDistributor, WriteDistributor, WriteCpuInterface, Pulse, run}
+use Rattle.history.specs.History.{Call, Setup, ReadDistributor, WriteDistributor, ReadCpuInterface, WriteCpuInterface, Pulse, run}
 use Rattle.corners.specs.Corners.{zeros}
 use Rattle.stories.specs.Stories.{ring, acknowledge, TwoRings, PulseInFlight}
 
@@ -16,17 +16,18 @@ lent count limit = zeros (size (shaped count limit))
 abbrev pub after : ℕ → ℕ → List Call → List ℕ
 after count limit cs = run (Setup count limit ∷ cs) (lent count limit)
 
--- Two rings. Before them the Distributor is turned on, and the interface of vCPU 2, which masks nothing and has nothing to do.
+-- Two rings, in EOI mode; without it the corner list has the same story. Before them the Distributor is turned on, and the interface of vCPU 2,
+-- which masks nothing and has nothing to do.
 unfoldable pub beforeRings : List Call
 beforeRings =
     WriteDistributor 0 0x000 Dword 1
-    ∷ WriteCpuInterface 2 0x00 Dword 1
+    ∷ WriteCpuInterface 2 0x00 Dword 0x201
     ∷ WriteCpuInterface 2 0x04 Dword 255
     ∷ []
 
 -- vCPU 1 rings SGI 3 at it, and vCPU 0, whose source is the lower, rings second. In between SPI 33, which has no target, is pulsed, and vCPU 0
 -- reads TYPER and turns its own interface on. After both it rings SGI 4 at vCPUs 0 and 2: at vCPU 2 that one waits behind SGI 3. vCPU 0
--- acknowledges its own SGI 4 while vCPU 2 serves SGI 3, and ends it once vCPU 2 has ended.
+-- acknowledges its own SGI 4 while vCPU 2 serves SGI 3, ends it between vCPU 2's writes to EOIR and DIR, and reads its running priority after them.
 unfoldable pub twoRingsFrom : List ℕ → TwoRings
 twoRingsFrom s = record {
   shape = shaped 3 34;
@@ -41,6 +42,7 @@ twoRingsFrom s = record {
   meanwhile₂ = ring 0 0x00050004 ∷ [];
   meanwhile₃ = acknowledge 0 ∷ [];
   meanwhile₄ = WriteCpuInterface 0 0x10 Dword 4 ∷ [];
+  meanwhile₅ = ReadCpuInterface 0 0x14 Dword ∷ [];
 }
 
 abbrev pub twoRings : TwoRings
