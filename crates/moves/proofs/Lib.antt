@@ -1,5 +1,7 @@
 -- What each move leaves alone, and that each keeps a controller a controller.
 pub mod Controllers
+pub mod Frames
+pub mod Gives
 pub mod Parts
 pub mod Past
 pub mod Records

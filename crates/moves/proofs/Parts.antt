@@ -1,22 +1,18 @@
 -- A lawful state in parts: each vCPU's stack, each record, each SGI with its sources; what leaves a part's slots leaves the part. Assumes nothing.
-use mathlib.Core.Path.{_≡_, refl, sym, ap, subst, _∙_}
+use mathlib.Core.Path.{_≡_, refl, sym, subst}
 use mathlib.Core.Bool.{not}
 use mathlib.Core.List.{List}
 use mathlib.Core.Logic.{inl, inr}
-use Prim.Native.Nat.{ℕ, _%_, _≤_, _<_}
+use Prim.Native.Nat.{ℕ, _<_}
 use native.Mathlib.Omega.{arith}
 use lib.Dec.{eqb}
-use lib.ListN.{getD}
-use borrow.Author.Tests.{lt-ltb}
-use Rattle.interrupt.specs.declared.record.InterruptRecord.{InterruptRecord}
 use Rattle.word.specs.Word.{recordOf}
 use Rattle.word.proofs.Cases.{same-or}
 use Rattle.state.specs.declared.layout.Shape.{Shape}
 use Rattle.state.specs.declared.layout.InterfaceValue.the-variants.{Depth}
-use Rattle.state.specs.declared.words.Entry.{Entry}
-use Rattle.state.specs.Layout.{Slot, Count, Limit, Interface, Sources, Private, Stack, Exists, Room}
-use Rattle.state.specs.Lent.{shaped, Held}
-use Rattle.state.specs.Words.{wordAt, recordSlot, RecordThere, recordAt, sourcesAt, entryOf, entryAt}
+use Rattle.state.specs.Layout.{Slot, Count, Limit, Interface, Sources, Stack, Room}
+use Rattle.state.specs.Lent.{shaped}
+use Rattle.state.specs.Words.{wordAt, recordSlot, RecordThere, recordAt, sourcesAt, entryAt}
 use Rattle.state.proofs.Accessors.{record-exists, same-or-other, records-apart}
 use Rattle.state.proofs.Numbers.{Of, one-vcpu}
 use Rattle.state.proofs.SlotKinds.{apart-record}

@@ -11,7 +11,6 @@ use Rattle.interrupt.specs.Record.{setPending}
 use Rattle.word.specs.Word.{bitOf, wordOf}
 use Rattle.state.specs.declared.layout.Shape.{Shape}
 use Rattle.state.specs.declared.layout.InterfaceValue.the-variants.{Depth}
-use Rattle.state.specs.declared.words.Entry.{Entry}
 use Rattle.state.specs.Layout.{Slot, DistributorControl, Interface, Sources, Stack, Exists, Limits, size}
 use Rattle.state.specs.Words.{put, kept, recordSlot, RecordThere, recordAt, changed, sourcesAt, withSources, withInterface, withoutEntry, entryWord}
 use Rattle.state.proofs.Accessors.{put-past, record-exists}

@@ -9,7 +9,6 @@ use lib.Dec.{eqb}
 use Rattle.interrupt.specs.Record.{setPending}
 use Rattle.word.specs.Word.{bitOf, wordOf}
 use Rattle.state.specs.declared.layout.Shape.{Shape}
-use Rattle.state.specs.declared.layout.InterfaceValue.{InterfaceValue}
 use Rattle.state.specs.declared.layout.InterfaceValue.the-variants.{Control, PriorityMask, BinaryPoint, Depth}
 use Rattle.state.specs.declared.words.Entry.{Entry}
 use Rattle.state.specs.Layout.{Slot, Count, Limit, DistributorControl, Interface, Sources, Private, Spi, Stack, Exists, Room}
@@ -19,12 +18,12 @@ use Rattle.state.proofs.Numbers.{Of}
 use Rattle.state.proofs.SlotKinds.{kindOf, kinds-apart, record-kind, apart-record}
 use Rattle.sgi.specs.Sgi.{mergedSources}
 use Rattle.sgi.proofs.Rings.{sgi-exists}
-use Rattle.service.specs.Service.{depthAt, Served}
+use Rattle.service.specs.Service.{Served}
 use Rattle.service.proofs.Stacks.{popped-room, popped-others}
 use Rattle.acknowledge.specs.Acknowledge.{Givable}
 use Rattle.acknowledge.proofs.Offers.{offer-below}
 use Rattle.delivery.proofs.Given.{given-room, given-others}
-use Rattle.lawful.specs.Lawful.{Orderly, Lawful}
+use Rattle.lawful.specs.Lawful.{Lawful}
 use Rattle.lawful.proofs.Depths.{at-most-255, offer-room}
 use Rattle.moves.specs.Moves.{Move, Changed, Sourced, Kept, Switched, Given, Popped, becomes, moved, Giving, Open}
 

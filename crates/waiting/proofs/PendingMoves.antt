@@ -22,7 +22,8 @@ use Rattle.state.proofs.SlotKinds.{record-apart}
 use Rattle.end.specs.End.{retire}
 use Rattle.lawful.specs.Lawful.{Controls}
 use Rattle.moves.specs.Moves.{Change, SetEnabled, SetPending, SetActive, CancelInflight, SetTrigger, SetPriority, SetCpuTargetMask, SetLevel, Pulse, DeactivateInflight, Complete, becomes, Move, Changed, Sourced, Kept, Switched, Given, Popped, moved, Changing, Open}
-use Rattle.moves.proofs.Controllers.{changed-record, record-off-stack}
+use Rattle.moves.proofs.Controllers.{changed-record}
+use Rattle.moves.proofs.Frames.{record-off-stack}
 use Rattle.moves.proofs.Slots.{Touches, move-others}
 use Rattle.waiting.specs.Waiting.{pends, meets}
 
