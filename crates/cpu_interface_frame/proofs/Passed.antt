@@ -25,4 +25,4 @@ module _ {shape : Shape} {s : List ℕ} (v : ℕ) (h : Sound shape s) where
   interface-written e = record { state = h .state; served = λ q. sound-served v h (present _ shape v e q) }
 
 pub full-read : (shape : Shape) (v : ℕ) (register : CpuInterfaceRegister) (s : List ℕ) → readRegister shape v register s ≡ StackFull → afterRead shape v register s ≡ s
-full-read shape v register s = each-read shape v s (λ k looksUp answer r. answer ≡ StackFull → r ≡ s) (λ k looksUp x e. refl) (λ k q e. full-unchanged shape v s (ap refusalOf e)) register
+full-read shape v register s = each-read shape v s (λ k looksUp answer r. answer ≡ StackFull → r ≡ s) (λ k no looksUp x e. refl) (λ k q e. full-unchanged shape v s (ap refusalOf e)) register

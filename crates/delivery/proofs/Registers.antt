@@ -27,24 +27,24 @@ use Rattle.cpu_interface.proofs.Decoding.{valid-decodes}
 -- a read acknowledges, or gives a value and changes nothing; P is of the register, of whether its vCPU is looked up, of the answer and of the
 -- state after
 module _ (shape : Shape) (v : ℕ) (s : List ℕ) (P : CpuInterfaceRegister → Bool → Read → List ℕ → Type 0)
-    (gives : (register : CpuInterfaceRegister) (looksUp : Bool) (x : ℕ) → P register looksUp (Value x) s)
+    (gives : (register : CpuInterfaceRegister) → acknowledging register ≡ false → (looksUp : Bool) (x : ℕ) → P register looksUp (Value x) s)
     (acknowledges : (register : CpuInterfaceRegister) → acknowledging register ≡ true → P register (enabledAt shape s) (acknowledge shape v s) (acknowledged shape v s)) where
   pub each-read : (register : CpuInterfaceRegister) → P register (readLooksUp register (enabledAt shape s)) (readRegister shape v register s) (afterRead shape v register s)
-  each-read Ctlr = gives Ctlr true (interfaceAt shape v Control s)
-  each-read Pmr = gives Pmr true (interfaceAt shape v PriorityMask s)
-  each-read Bpr = gives Bpr true (interfaceAt shape v BinaryPoint s)
+  each-read Ctlr = gives Ctlr refl true (interfaceAt shape v Control s)
+  each-read Pmr = gives Pmr refl true (interfaceAt shape v PriorityMask s)
+  each-read Bpr = gives Bpr refl true (interfaceAt shape v BinaryPoint s)
   each-read Iar = acknowledges Iar refl
-  each-read Eoir = gives Eoir false 0
-  each-read Rpr = gives Rpr true (running shape v s)
-  each-read Hppir = gives Hppir true (highestPending shape v s)
-  each-read Abpr = gives Abpr true (interfaceAt shape v BinaryPoint s)
+  each-read Eoir = gives Eoir refl false 0
+  each-read Rpr = gives Rpr refl true (running shape v s)
+  each-read Hppir = gives Hppir refl true (highestPending shape v s)
+  each-read Abpr = gives Abpr refl true (interfaceAt shape v BinaryPoint s)
   each-read Aiar = acknowledges Aiar refl
-  each-read Aeoir = gives Aeoir false 0
-  each-read Ahppir = gives Ahppir true (highestPending shape v s)
-  each-read Apr = gives Apr false 0
-  each-read Iidr = gives Iidr false iidr
-  each-read Dir = gives Dir false 0
-  each-read Other = gives Other false 0
+  each-read Aeoir = gives Aeoir refl false 0
+  each-read Ahppir = gives Ahppir refl true (highestPending shape v s)
+  each-read Apr = gives Apr refl false 0
+  each-read Iidr = gives Iidr refl false iidr
+  each-read Dir = gives Dir refl false 0
+  each-read Other = gives Other refl false 0
 
 -- a write keeps a value, ends or deactivates an interrupt, or changes nothing; P is of whether its vCPU is looked up, of what is retired and of the
 -- state after
@@ -91,7 +91,7 @@ module _ (shape : Shape) (v : ℕ) (s : List ℕ) (P : List ℕ → Type 0) (sam
         go false e = simp e same
 
     pub read-cases : (register : CpuInterfaceRegister) → (readLooksUp register (enabledAt shape s) ≡ true → v < shape .count) → P (afterRead shape v register s)
-    read-cases = each-read shape v s (λ register looksUp answer r. (looksUp ≡ true → v < shape .count) → P r) (λ register looksUp x looked. same) (λ register e. acknowledge-case)
+    read-cases = each-read shape v s (λ register looksUp answer r. (looksUp ≡ true → v < shape .count) → P r) (λ register no looksUp x looked. same) (λ register e. acknowledge-case)
 
   module _ (value : ℕ)
       (keep : v < shape .count → (k : InterfaceValue) → OffStack (Interface v k) → P (withInterface shape v k value s))

@@ -123,7 +123,7 @@ module _ (shape : Shape) (s : List ℕ) (h : Controls shape s) (P : Call → Out
   interface-read v offset width (interface.Refused r) q p = refuses (ReadCpuInterface v offset width) r (few (omega (arith, p)))
   interface-read v offset width (interface.At register) q p =
       each-read shape v s (λ k looksUp answer r. locateCpuInterface offset width ≡ interface.At k → P c (lookedUp looksUp shape v s (interface-frame.readAnswer answer s r)))
-      (λ k looksUp x at. looked c looksUp v (gave x s) (λ e. reads c x))
+      (λ k no looksUp x at. looked c looksUp v (gave x s) (λ e. reads c x))
       (λ k is at. looked c (enabledAt shape s) v (interface-frame.readAnswer (acknowledge shape v s) s (acknowledged shape v s))
       (λ e. acknowledges v offset width k at is (present (enabledAt shape s) shape v e)))
       register q

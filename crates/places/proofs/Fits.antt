@@ -150,18 +150,19 @@ module _ (shape : Shape) (v : ℕ) (p : Place) (w : AccessWidth) (s : List ℕ) 
   own : (c : Class) → p .class ≡ c → isBanked c ≡ true → first < 32 → p .private ≡ true
   own c e b low = placement .private-is ∙ simp (e, b, lt-ltb first 32 low)
 
-  pub bit-word : (register : BitRegister) → p .class ≡ Bits register → (p .private ≡ true → v < shape .count) → WordAt shape register v (p .first .0) s
-  bit-word register e looked = record {
-    state = h;
-    together = λ low. rw (per-word register) (reached (own (Bits register) e refl low));
-    banked = λ low. looked (own (Bits register) e refl low);
-  }
+  -- a private word of a bit register ends below 32
+  pub private-word : (register : BitRegister) → p .class ≡ Bits register → p .private ≡ true → p .first .0 + perWord register ≤ 32
+  private-word register e q = rw (per-word register) (simp (q, e, dword) at bound)
     where
       dword : bytes w ≡ 4
       dword = dword-bytes w (subst (λ (c : Class). WidthFits c w) e (placement .width-fits))
 
-      reached : p .private ≡ true → first + bitNumbersPerByte register * 4 ≤ 32
-      reached q = simp (q, e, dword) at bound
+  pub bit-word : (register : BitRegister) → p .class ≡ Bits register → (p .private ≡ true → v < shape .count) → WordAt shape register v (p .first .0) s
+  bit-word register e looked = record {
+    state = h;
+    together = λ low. private-word register e (own (Bits register) e refl low);
+    banked = λ low. looked (own (Bits register) e refl low);
+  }
 
   module _ (register : ByteRegister) (e : p .class ≡ Bytes register) (looked : byteLooksUp register (p .private) ≡ true → v < shape .count) where
     not-qword : isQword w ≡ false

@@ -1,11 +1,11 @@
 -- What the calls of the stories come to in a controller: a ring, an acknowledge, an end, a pulse. Assumes nothing.
 use mathlib.Core.Path.{_≡_, refl, ap, _∙_}
-use mathlib.Core.Bool.{Bool, true, false, false≢true}
+use mathlib.Core.Bool.{true, false≢true}
 use mathlib.Core.List.{List}
 use Prim.Native.Nat.{ℕ, _%_, _^_, _≤_, _<_}
 use native.Mathlib.Omega.{arith}
 use lib.Dec.{ltb}
-use borrow.Author.Tests.{ltb-true, lt-ltb, le-leb, lt-leb, eq-eqb}
+use borrow.Author.Tests.{lt-ltb, eq-eqb}
 use Rattle.interrupt.specs.declared.types.DecodedIntId.the-variants.{Valid}
 use Rattle.interrupt.specs.Record as record-of
 use Rattle.interrupt.specs.Types.{decoded}
@@ -27,14 +27,16 @@ use Rattle.acknowledge.specs.declared.Read.the-variants.{Value, StackFull}
 use Rattle.acknowledge.specs.Acknowledge as acknowledge-of
 use Rattle.end.specs.End as end-of
 use Rattle.places.specs.Places.{names}
-use Rattle.answer.specs.Answer.{went, absent}
+use Rattle.answer.specs.Answer.{went}
+use Rattle.answer.proofs.Present.{found}
 use Rattle.distributor_frame.specs.DistributorFrame.{writeV2Distributor}
 use Rattle.cpu_interface_frame.specs.CpuInterfaceFrame.{readAnswer, readV2CpuInterface, writeV2CpuInterface}
-use Rattle.input.specs.Input.{inputOf, deviceInput}
+use Rattle.input.specs.declared.Signal.the-variants.{Edge}
 use Rattle.lawful.specs.Lawful.{Controls}
 use Rattle.wake.specs.Wake.{isSpurious}
 use Rattle.history.specs.History.{Pulse, called}
 use Rattle.history.proofs.Each.{valid}
+use Rattle.waiting.proofs.Accepted.{input-call}
 use Rattle.stories.specs.Stories.{ring, acknowledge, end, deactivate}
 
 -- where the registers are
@@ -54,11 +56,6 @@ sgir-at : locateDistributor 0xf00 Dword ≡ distributor.At (plain Sgir)
 unfolding locateDistributor locateInFrame single rangeAt rangeIn ranges
 sgir-at = refl
 
--- a vCPU that exists is found
-found : (looksUp : Bool) (shape : Shape) (v : ℕ) → v < shape .count → absent looksUp shape v ≡ false
-found true shape v exists = lt-leb (shape .count) v exists
-found false shape v exists = refl
-
 -- a target that somebody is in names somebody
 named : (target : SgiTarget) (v t : ℕ) → includes target v t ≡ true → names target ≡ true
 named (Mask byte) v t e = refl
@@ -73,7 +70,7 @@ decoded-valid n below = simp (lt-ltb n 1020 below)
 module _ (shape : Shape) (s : List ℕ) (h : Controls shape s) (v : ℕ) where
   pub acknowledge-call : v < shape .count → called (acknowledge v) s ≡ readAnswer (acknowledge-of.acknowledge shape v s) s (acknowledge-of.acknowledged shape v s)
   unfolding readV2CpuInterface
-  acknowledge-call exists = simp (valid shape s h, iar-at, found (enabledAt shape s) shape v exists)
+  acknowledge-call exists = simp (valid shape s h, iar-at, found (enabledAt shape s) shape v (λ e. exists))
 
   -- a number written, as EOIR and DIR take it
   module _ (n : ℕ) (exists : v < shape .count) (below : n < 1020) where
@@ -88,26 +85,18 @@ module _ (shape : Shape) (s : List ℕ) (h : Controls shape s) (v : ℕ) where
 
     pub end-call : called (end v n) s ≡ went shape (end-of.endRetired shape v n s) s (end-of.ended shape v n s)
     unfolding writeV2CpuInterface
-    end-call = simp (valid shape s h, eoir-at, decodes, found true shape v exists, number)
+    end-call = simp (valid shape s h, eoir-at, decodes, found true shape v (λ q. exists), number)
 
     pub deactivate-call : called (deactivate v n) s ≡ went shape (end-of.retired shape v n s) s (end-of.deactivated shape v n s)
     unfolding writeV2CpuInterface
-    deactivate-call = simp (valid shape s h, dir-at, decodes, found true shape v exists, number)
+    deactivate-call = simp (valid shape s h, dir-at, decodes, found true shape v (λ q. exists), number)
 
   pub ring-call : (value t : ℕ) → v < shape .count → includes (sgiTarget (value % 2 ^ 32)) v t ≡ true → called (ring v value) s ≡ went shape 1023 s (writeSgir shape v (value % 2 ^ 32) s)
   unfolding writeV2Distributor
-  ring-call value t exists e = simp (valid shape s h, sgir-at, named (sgiTarget (value % 2 ^ 32)) v t e, found true shape v exists)
+  ring-call value t exists e = simp (valid shape s h, sgir-at, named (sgiTarget (value % 2 ^ 32)) v t e, found true shape v (λ q. exists))
 
   pub pulse-call : (n : ℕ) → RecordThere shape v n → 16 ≤ n → called (Pulse v n) s ≡ went shape 1023 s (changed shape v n record-of.pulse s)
-  unfolding deviceInput inputOf
-  pulse-call n there past = simp (valid shape s h, le-leb 16 n past, lt-ltb n (shape .limit) (there .numbered), looked)
-    where
-      looked : absent (ltb n 32) shape v ≡ false
-      looked = go (ltb n 32) refl
-        where
-          go : (b : Bool) → ltb n 32 ≡ b → absent b shape v ≡ false
-          go true e = found true shape v (there .banked (ltb-true n 32 e))
-          go false e = refl
+  pulse-call = input-call shape s h v Edge
 
   -- who would be answered 1023 is quiet
   pub asleep-quiet : v < shape .count → called (acknowledge v) s .value ≡ 1023 → isSpurious (acknowledge-of.acknowledge shape v s) ≡ true

@@ -1,13 +1,13 @@
--- The bits of a source set: one that is set stays set if bits are joined, and if other bits are cleared. Assumes nothing.
-use mathlib.Core.Path.{_≡_, refl, ap, _∙_}
-use mathlib.Core.Bool.{Bool, true, false, not, _||_, true≢false}
+-- The bits of a source set: one that is set stays set if bits are joined, and if other bits are cleared; one that is cleared is gone. Assumes nothing.
+use mathlib.Core.Path.{_≡_, refl, sym, ap, _∙_}
+use mathlib.Core.Bool.{Bool, true, false, not, cond}
 use Prim.Native.Nat.{ℕ, _-_, _/_, _%_, _^_, _<_}
 use native.Mathlib.Omega.{arith}
 use native.Mathlib.Nat.{div-eq-of-lt, lt-of-lt-of-le}
-use lib.Bits.{bitAnd, bitOr, or-shr, or-mod, and-shr, and-mod}
+use lib.Bits.{bitAnd, bitOr, or-shr, or-mod, and-shr, and-mod, and-le-r}
 use lib.Dec.{eqb, leb}
 use lib.Pow.{pow-mono, pow-lt}
-use borrow.Author.Tests.{eqb-true, leb-true, leb-false, ne-eqb, not-true}
+use borrow.Author.Tests.{eqb-true, leb-true, leb-false, eqb-false, ne-eqb, not-true}
 use Rattle.state.specs.Loop.{everyBelow}
 use Rattle.state.proofs.Tests.{every-at}
 use Rattle.acknowledge.specs.Acknowledge.{lowestSource}
@@ -35,36 +35,49 @@ bit-or u a b e =
     let is : bitOr a b / 2 ^ u % 2 ≡ bitOr 1 (b / 2 ^ u % 2) = ap (λ (x : ℕ). x % 2) (or-shr a b u) ∙ or-mod (a / 2 ^ u) (b / 2 ^ u) 1 ∙ ap (λ (x : ℕ). bitOr x (b / 2 ^ u % 2)) one in
     ap (λ (x : ℕ). eqb x 1) is ∙ every-at (λ x. eqb (bitOr 1 x) 1) 2 (b / 2 ^ u % 2) joined-one (omega arith)
 
--- cleared: where a byte has no bit, its complement has
-complement : everyBelow (λ u. everyBelow (λ b. bit u b || bit u (255 - b)) 256) 8 ≡ true
+-- two tests that come out alike
+alike : (a b : Bool) → cond a b (not b) ≡ true → b ≡ a
+alike true b e = e
+alike false b e = not-true b e
+
+-- cleared: a byte's complement has the bits that the byte has not
+complement : everyBelow (λ u. everyBelow (λ b. cond (not (bit u b)) (bit u (255 - b)) (not (bit u (255 - b)))) 256) 8 ≡ true
 unfolding everyBelow
 complement = refl
 
-other : (a b : Bool) → (a || b) ≡ true → a ≡ false → b ≡ true
-other true b e f = absurd (true≢false f)
-other false b e f = e
+bit-complement : (u b : ℕ) → u < 8 → b < 256 → bit u (255 - b) ≡ not (bit u b)
+bit-complement u b low byte =
+    alike (not (bit u b)) (bit u (255 - b))
+    (every-at (λ x. cond (not (bit u x)) (bit u (255 - x)) (not (bit u (255 - x)))) 256 b (every-at (λ v. everyBelow (λ x. cond (not (bit v x)) (bit v (255 - x)) (not (bit v (255 - x)))) 256) 8 u complement low) byte)
+
+both-bits : (u a b : ℕ) → bitAnd a b / 2 ^ u % 2 ≡ bitAnd (a / 2 ^ u % 2) (b / 2 ^ u % 2)
+both-bits u a b = ap (λ (x : ℕ). x % 2) (and-shr a b u) ∙ and-mod (a / 2 ^ u) (b / 2 ^ u) 1
 
 pub bit-cleared : (u a b : ℕ) → u < 8 → b < 256 → bit u a ≡ true → bit u b ≡ false → bit u (bitAnd a (255 - b)) ≡ true
 bit-cleared u a b low byte e f =
-    let both : (bit u b || bit u (255 - b)) ≡ true = every-at (λ x. bit u x || bit u (255 - x)) 256 b (every-at (λ v. everyBelow (λ x. bit v x || bit v (255 - x)) 256) 8 u complement low) byte in
     let left : a / 2 ^ u % 2 ≡ 1 = eqb-true (a / 2 ^ u % 2) 1 e in
-    let right : (255 - b) / 2 ^ u % 2 ≡ 1 = eqb-true ((255 - b) / 2 ^ u % 2) 1 (other (bit u b) (bit u (255 - b)) both f) in
-    let is : bitAnd a (255 - b) / 2 ^ u % 2 ≡ bitAnd 1 1 = ap (λ (x : ℕ). x % 2) (and-shr a (255 - b) u) ∙ and-mod (a / 2 ^ u) ((255 - b) / 2 ^ u) 1 ∙ (λ i. bitAnd (left i) (right i)) in
-    ap (λ (x : ℕ). eqb x 1) is
+    let right : (255 - b) / 2 ^ u % 2 ≡ 1 = eqb-true ((255 - b) / 2 ^ u % 2) 1 (bit-complement u b low byte ∙ ap not f) in
+    ap (λ (x : ℕ). eqb x 1) (both-bits u a (255 - b) ∙ (λ i. bitAnd (left i) (right i)))
+
+-- .. and what it has goes
+pub bit-gone : (u a b : ℕ) → u < 8 → b < 256 → bit u b ≡ true → bit u (bitAnd a (255 - b)) ≡ false
+bit-gone u a b low byte e =
+    let off : (255 - b) / 2 ^ u % 2 ≡ 1 → ⊥ = eqb-false ((255 - b) / 2 ^ u % 2) 1 (bit-complement u b low byte ∙ ap not e) in
+    ne-eqb (bitAnd a (255 - b) / 2 ^ u % 2) 1 (λ p. off (omega (arith, sym (both-bits u a (255 - b)) ∙ p, and-le-r (a / 2 ^ u % 2) ((255 - b) / 2 ^ u % 2))))
 
 -- a power of two has one bit
-lone : everyBelow (λ u. everyBelow (λ l. eqb l u || not (bit u (2 ^ l))) 8) 8 ≡ true
+lone : everyBelow (λ u. everyBelow (λ l. cond (eqb l u) (bit u (2 ^ l)) (not (bit u (2 ^ l)))) 8) 8 ≡ true
 unfolding everyBelow
 lone = refl
 
-pub bit-of-power : (u l : ℕ) → u < 8 → l < 8 → (l ≡ u → ⊥) → bit u (2 ^ l) ≡ false
-bit-of-power u l a b apart =
-    not-true (bit u (2 ^ l))
-    (other (eqb l u) (not (bit u (2 ^ l))) (every-at (λ x. eqb x u || not (bit u (2 ^ x))) 8 l (every-at (λ v. everyBelow (λ x. eqb x v || not (bit v (2 ^ x))) 8) 8 u lone a) b) (ne-eqb l u apart))
+pub bit-of-power : (u l : ℕ) → u < 8 → l < 8 → bit u (2 ^ l) ≡ eqb l u
+bit-of-power u l a b =
+    alike (eqb l u) (bit u (2 ^ l))
+    (every-at (λ x. cond (eqb x u) (bit u (2 ^ x)) (not (bit u (2 ^ x)))) 8 l (every-at (λ v. everyBelow (λ x. cond (eqb x v) (bit v (2 ^ x)) (not (bit v (2 ^ x)))) 8) 8 u lone a) b)
 
 -- the lowest source taken leaves the others
 pub bit-left : (x u : ℕ) → x < 256 → bit u x ≡ true → (lowestSource x ≡ u → ⊥) → bit u (bitAnd x (255 - 2 ^ lowestSource x)) ≡ true
 bit-left x u b e apart =
     let low : u < 8 = bit-below x u b e in
     let lowest : lowestSource x < 8 = omega (arith, lowest-is x u e low .1, low) in
-    bit-cleared u x (2 ^ lowestSource x) low (pow-lt lowest) e (bit-of-power u (lowestSource x) low lowest apart)
+    bit-cleared u x (2 ^ lowestSource x) low (pow-lt lowest) e (bit-of-power u (lowestSource x) low lowest ∙ ne-eqb (lowestSource x) u apart)

@@ -3,10 +3,10 @@
 use mathlib.Core.Path.{_≡_, refl, sym, subst, _∙_}
 use mathlib.Core.Bool.{Bool, true, false, not, true≢false}
 use mathlib.Core.List.{List, [], _∷_}
-use Prim.Native.Nat.{ℕ, _+_, _*_, _-_, _%_, _^_, _<_}
+use Prim.Native.Nat.{ℕ, _+_, _*_, _-_, _%_, _^_, _≤_, _<_}
 use native.Mathlib.Omega.{arith}
-use lib.Dec.{eqb}
-use borrow.Author.Tests.{not-true, eq-eqb, le-leb, lt-ltb}
+use lib.Dec.{eqb, leb, ltb}
+use borrow.Author.Tests.{not-true, eq-eqb, le-leb, lt-ltb, leb-true, ltb-true}
 use Rattle.register.specs.declared.frame.AccessWidth.{AccessWidth}
 use Rattle.register.specs.declared.«cpu_interface».CpuInterfaceRegister.{CpuInterfaceRegister}
 use Rattle.register.specs.declared.«cpu_interface».CpuInterfaceAccess.the-variants as interface
@@ -21,18 +21,16 @@ use Rattle.state.specs.Fresh.{fresh}
 use Rattle.state.specs.Lent.{shaped}
 use Rattle.select.specs.declared.Selected.{Selected}
 use Rattle.select.specs.declared.Selected.the-variants.{Best, Nothing}
-use Rattle.acknowledge.specs.Acknowledge.{offer, sourceOf, given, acknowledge, acknowledged}
+use Rattle.acknowledge.specs.Acknowledge.{offer, sourceOf, given, answered, taken, acknowledge, acknowledged}
 use Rattle.acknowledge.proofs.Offers.{offer-is}
-use Rattle.acknowledge.specs.declared.Read.{Read}
-use Rattle.acknowledge.specs.declared.Read.the-variants.{Value, StackFull}
 use Rattle.cpu_interface.specs.CpuInterface.{acknowledging}
-use Rattle.delivery.proofs.Answers.{acknowledge-is, acknowledged-is, none-unchanged}
+use Rattle.delivery.proofs.Answers.{acknowledge-is, acknowledged-is}
 use Rattle.answer.specs.Answer.{Outcome, gave}
 use Rattle.cpu_interface_frame.specs.CpuInterfaceFrame.{readAnswer}
 use Rattle.lawful.specs.Lawful.{Controls}
 use Rattle.lawful.proofs.Depths.{offer-room}
 use Rattle.moves.specs.Moves as moves
-use Rattle.moves.specs.Moves.{Move, Changed, Given, moved, Open, Chain}
+use Rattle.moves.specs.Moves.{Move, Changed, Given, moved, Giving, Open, Chain}
 use Rattle.moves.proofs.Controllers.{chain-keeps}
 use Rattle.moves.proofs.Slots.{served}
 use Rattle.history.specs.History.{Call, Setup, WriteDistributor, ReadCpuInterface, SetLevel, isSetup, called, run}
@@ -46,12 +44,33 @@ use Rattle.waiting.specs.Waiting.{gives, among, never}
 pub run-at : (n first at count : ℕ) → at < count → first + at ≡ n → (among n first count ≡ true) × (n - first ≡ at)
 run-at n first at count inside p = (simp (le-leb first n (omega (arith, p)), lt-ltb n (first + count) (omega (arith, p, inside))), omega (arith, p))
 
+-- .. and the place by the number
+pub among-is : (n first count : ℕ) → among n first count ≡ true → (first + (n - first) ≡ n) × (n - first < count)
+among-is n first count e =
+    let low : first ≤ n = leb-true first n (left-true (leb first n) (ltb n (first + count)) e) in
+    let high : n < first + count = ltb-true n (first + count) (right-true (leb first n) (ltb n (first + count)) e) in
+    (omega (arith, low), omega (arith, low, high))
+
 -- what an acknowledge answers that gives v this interrupt, and what it comes to
 abbrev pub handedOut : Shape → ℕ → Entry → List ℕ → ℕ
 handedOut shape v e s = e .intid .0 + 1024 * sourceOf shape v (e .intid .0) s
 
 abbrev pub handingOut : Shape → ℕ → Entry → List ℕ → Outcome
 handingOut shape v e s = gave (handedOut shape v e s) (given shape v e s)
+
+-- an acknowledge gives something, or answers 1023 and changes nothing
+pub acknowledge-cases : (shape : Shape) (s : List ℕ) → Controls shape s → (v : ℕ) → (enabledAt shape s ≡ true → v < shape .count) → (P : Outcome → Type 0)
+    → P (gave 1023 s) → ((e : Entry) → Giving shape v e s → P (handingOut shape v e s)) → P (readAnswer (acknowledge shape v s) s (acknowledged shape v s))
+unfolding answered taken
+acknowledge-cases shape s h v looked P none give = go (offer shape v s) refl
+  where
+    go : (b : Selected) → offer shape v s ≡ b → P (readAnswer (acknowledge shape v s) s (acknowledged shape v s))
+    go Nothing p = simp p none
+    go (Best e) p =
+        let exists : v < shape .count = looked (left-true (enabledAt shape s) (eqb (interfaceAt shape v Control s % 2) 1) (offer-is shape v s e p .on)) in
+        let here = served shape s (h .lawful) v exists in
+        let room = offer-room shape v s (h .lawful .orderly) exists e p in
+        rw (acknowledge-is shape v s here e p room, acknowledged-is shape v s here e p room) (give e (record { exists = exists; offered = p }))
 
 -- what takes something away whenever all starts anew
 abbrev pub Anew : (List ℕ → Call → Outcome → Bool) → Type 0
@@ -102,26 +121,11 @@ module _ {shape : Shape} {holds : List ℕ → Bool} {takes : List ℕ → Call 
     chained : {May : Move → Type 0} {r : List ℕ} → ((m : Move) → May m → (t : List ℕ) → Spares m t) → Chain shape May s r → holds r ≡ true
     chained spares c = chain-keeps (λ t. holds t ≡ true) (λ m t may o controls p. w .kept m t controls o (spares m may t) p) c h now
 
-    -- an acknowledge gives something, or changes nothing
     acknowledges : (v offset : ℕ) (width : AccessWidth) (register : CpuInterfaceRegister) → locateCpuInterface offset width ≡ interface.At register → acknowledging register ≡ true
         → (enabledAt shape s ≡ true → v < shape .count) → Keeps (ReadCpuInterface v offset width) (readAnswer (acknowledge shape v s) s (acknowledged shape v s))
-    acknowledges v offset width register at is looked = go (offer shape v s) refl
-      where
-        c : Call
-        c = ReadCpuInterface v offset width
-
-        still : (a : Read) → Keeps c (readAnswer a s s)
-        still (Value x) e = now
-        still StackFull e = now
-
-        go : (b : Selected) → offer shape v s ≡ b → Keeps c (readAnswer (acknowledge shape v s) s (acknowledged shape v s))
-        go Nothing p = rw (none-unchanged shape v s p) (still (acknowledge shape v s))
-        go (Best e) p =
-            let exists : v < shape .count = looked (left-true (enabledAt shape s) (eqb (interfaceAt shape v Control s % 2) 1) (offer-is shape v s e p .on)) in
-            let here = served shape s (h .lawful) v exists in
-            let room = offer-room shape v s (h .lawful .orderly) exists e p in
-            rw (acknowledge-is shape v s here e p room, acknowledged-is shape v s here e p room)
-            (λ q. w .kept (Given v e) s h (record { exists = exists; offered = p }) (w .read s v offset width e (λ x same. rw (at, is) (eq-eqb (handedOut shape v e s) x same)) q) now)
+    acknowledges v offset width register at is looked =
+        acknowledge-cases shape s h v looked (Keeps (ReadCpuInterface v offset width)) (λ e. now)
+        (λ e o q. w .kept (Given v e) s h o (w .read s v offset width e (λ x same. rw (at, is) (eq-eqb (handedOut shape v e s) x same)) q) now)
 
     other-stays : (c : Call) → isSetup c ≡ false → Keeps c (called c s)
     other-stays =

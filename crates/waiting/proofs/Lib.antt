@@ -1,6 +1,9 @@
--- What waits stays until a call takes it.
+-- What waits stays until a call takes it, and then it is gone.
+pub mod Accepted
 pub mod BitLaws
 pub mod Keeping
+pub mod PendingGoes
 pub mod PendingMoves
 pub mod Pends
+pub mod RingGoes
 pub mod Rings

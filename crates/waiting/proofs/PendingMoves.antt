@@ -7,7 +7,7 @@ use mathlib.Core.Logic.{inl, inr}
 use Prim.Native.Nat.{ℕ, _≤_, _<_}
 use native.Mathlib.Omega.{arith}
 use lib.Dec.{eqb, leb}
-use borrow.Author.Tests.{eq-eqb, leb-false}
+use borrow.Author.Tests.{eq-eqb, eqb-true, leb-true, leb-false, le-ltb, lt-leb}
 use Rattle.interrupt.specs.declared.record.InterruptRecord.{InterruptRecord}
 use Rattle.interrupt.specs.Record.{setEnabled, setPending, setActive, cancelInflight, setPriority, setTrigger, setCpuTargetMask, setOwner, setLevel, pulse, complete, deactivateInflight, held, fallsIdle}
 use Rattle.word.specs.Word.{recordOf}
@@ -80,6 +80,18 @@ module _ (v n : ℕ) where
       go : (b : Bool) → leb 32 n ≡ b → (b || eqb u v) ≡ true
       go true e = refl
       go false e = eq-eqb u v (one-vcpu u v n (recordSlot v n) (leb-false 32 n e) (inl (subst (λ (k : ℕ). recordSlot v n ≡ recordSlot u k) number p)) (inl refl))
+
+  -- and who meets it has this slot
+  pub met-slot : (u : ℕ) → meets v n u ≡ true → recordSlot v n ≡ recordSlot u n
+  unfolding recordSlot
+  met-slot u e = go (leb 32 n) refl e
+    where
+      go : (b : Bool) → leb 32 n ≡ b → (b || eqb u v) ≡ true → recordSlot v n ≡ recordSlot u n
+      go true high q = simp (le-ltb n 32 (leb-true 32 n high)) refl
+      go false high q = rw (eqb-true u v q) refl
+
+  pub met-there : {shape : Shape} (u : ℕ) → meets v n u ≡ true → RecordThere shape v n → RecordThere shape u n
+  met-there u e there = record { numbered = there .numbered; banked = λ low. rw (eqb-true u v (rw (lt-leb 32 n low) at e)) (there .banked low) }
 
 -- a move that leaves it pending: it changes another record or spares this one, and it gives another interrupt
 abbrev pub Spares : Shape → ℕ → ℕ → Move → List ℕ → Type 0

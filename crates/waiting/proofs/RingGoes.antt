@@ -1,0 +1,116 @@
+-- The calls that take a ring do take it: after each of them it is gone, whether it was there or not. Assumes nothing.
+use mathlib.Core.Path.{_≡_, refl, sym, ap, subst, _∙_}
+use mathlib.Core.Bool.{Bool, true, false, _&&_, true≢false, false≢true}
+use mathlib.Core.List.{List}
+use mathlib.Core.Logic.{inr}
+use Prim.Native.Nat.{ℕ, _+_, _*_, _-_, _/_, _%_, _^_, _<_}
+use native.Mathlib.Omega.{arith}
+use native.Mathlib.Nat.{mod-lt, div-eq-of-lt}
+use lib.Dec.{eqb}
+use lib.Pow.{pow-lt, pow-pos}
+use borrow.Author.Tests.{lt-ltb, eqb-true, ne-eqb, eq-eqb}
+use Rattle.word.specs.Fields.{fieldAt}
+use Rattle.register.specs.declared.frame.AccessWidth.{AccessWidth}
+use Rattle.register.specs.declared.ranges.ByteRegister.the-variants.{Ipriorityr, Itargetsr, Cpendsgir, Spendsgir}
+use Rattle.register.specs.declared.ranges.Class.{Class}
+use Rattle.register.specs.declared.ranges.Class.the-variants.{Ctlr, Typer, Iidr, Sgir, Bits, Bytes, Other}
+use Rattle.register.specs.declared.distributor.DistributorAccess.{DistributorAccess}
+use Rattle.register.specs.declared.distributor.DistributorAccess.the-variants as distributor
+use Rattle.register.specs.CpuInterface.{locateCpuInterface}
+use Rattle.register.specs.Distributor.{locateDistributor}
+use Rattle.register.specs.Frame.{bytes}
+use Rattle.state.specs.declared.layout.Shape.{Shape}
+use Rattle.state.specs.declared.words.Entry.{Entry}
+use Rattle.state.specs.Layout.{Sources}
+use Rattle.state.specs.Words.{sourcesAt}
+use Rattle.state.proofs.Tests.{left-true, right-true}
+use Rattle.sgi.specs.Sgi.{writeSources}
+use Rattle.sgi.proofs.Rings.{written-sources}
+use Rattle.distributor.specs.Bytes.{writeBytes, BytesAt}
+use Rattle.distributor.proofs.Registers.{bytes-written}
+use Rattle.acknowledge.specs.Acknowledge.{lowestSource, sourceOf, given}
+use Rattle.delivery.proofs.Given.{given-sources}
+use Rattle.places.proofs.Fits.{byte-run}
+use Rattle.lawful.specs.Lawful.{Controls}
+use Rattle.moves.specs.Moves.{Giving}
+use Rattle.moves.proofs.Slots.{givable}
+use Rattle.history.specs.History.{Call, Setup, ReadDistributor, WriteDistributor, ReadCpuInterface, WriteCpuInterface, SetLevel, Pulse, isSetup, called}
+use Rattle.waiting.specs.Waiting.{bit, rung, gives, isCpendsgir, among, clearsSourceAt, takesRing}
+use Rattle.waiting.proofs.Accepted.{write-call, hands-out}
+use Rattle.waiting.proofs.BitLaws.{bit-gone, bit-of-power}
+use Rattle.waiting.proofs.Keeping.{among-is, handedOut}
+
+-- the register by its test
+is-cpendsgir : (c : Class) → isCpendsgir c ≡ true → c ≡ Bytes Cpendsgir
+is-cpendsgir Ctlr e = absurd (false≢true e)
+is-cpendsgir Typer e = absurd (false≢true e)
+is-cpendsgir Iidr e = absurd (false≢true e)
+is-cpendsgir Sgir e = absurd (false≢true e)
+is-cpendsgir (Bits register) e = absurd (false≢true e)
+is-cpendsgir (Bytes Ipriorityr) e = absurd (false≢true e)
+is-cpendsgir (Bytes Itargetsr) e = absurd (false≢true e)
+is-cpendsgir (Bytes Cpendsgir) e = refl
+is-cpendsgir (Bytes Spendsgir) e = absurd (false≢true e)
+is-cpendsgir Other e = absurd (false≢true e)
+
+module _ (shape : Shape) (t n u : ℕ) (exists : t < shape .count) (sgi : n < 16) (low : u < 8) where
+  module _ (s : List ℕ) (h : Controls shape s) where
+    -- a byte with a 1 for u clears it
+    byte-clears : (byte m : ℕ) → byte < 256 → m < 16 → bit u byte ≡ true → rung shape t m u (writeSources shape t m false byte s) ≡ false
+    byte-clears byte m fits below e =
+        rw (written-sources shape t m s (h .lawful .in-range .state) (exists, below) false byte fits some) (bit-gone u (sourcesAt shape t m s) byte low fits e)
+      where
+        some : byte ≡ 0 → ⊥
+        some p = true≢false (sym e ∙ rw p (ne-eqb (0 / 2 ^ u % 2) 1 (λ q. omega (arith, q, div-eq-of-lt (pow-pos u)))))
+
+    run-clears : (first count value i : ℕ) → BytesAt shape Cpendsgir t first count s → i < count → bit u (fieldAt 8 i value) ≡ true
+        → rung shape t (first + i) u (writeBytes shape Cpendsgir t first count value s) ≡ false
+    run-clears first count value i at inside e =
+        ap (λ (w : ℕ). bit u (w % 256)) (bytes-written shape Cpendsgir t first count value s at i inside .agree (Sources t (first + i)) (at .there i inside) (inr refl))
+        ∙ byte-clears (fieldAt 8 i value) (first + i) (mod-lt (value / 2 ^ (8 * i)) (pow-pos 8)) (at .there i inside .1) e
+
+    written : (offset : ℕ) (width : AccessWidth) (value : ℕ) (a : DistributorAccess) → locateDistributor offset width ≡ a
+        → clearsSourceAt n u a width (value % 2 ^ 32) ≡ true → rung shape t n u (called (WriteDistributor t offset width value) s .state) ≡ false
+    written offset width value (distributor.Refused r) p e = absurd (false≢true e)
+    written offset width value distributor.PrivateWidth p e = absurd (false≢true e)
+    written offset width value (distributor.At place) p e =
+        let first : ℕ = place .first .0 in
+        let x : ℕ = value % 2 ^ 32 in
+        let front = left-true (isCpendsgir (place .class) && among n first (bytes width)) (bit u (fieldAt 8 (n - first) x)) e in
+        let set = right-true (isCpendsgir (place .class) && among n first (bytes width)) (bit u (fieldAt 8 (n - first) x)) e in
+        let is = is-cpendsgir (place .class) (left-true (isCpendsgir (place .class)) (among n first (bytes width)) front) in
+        let run = among-is n first (bytes width) (right-true (isCpendsgir (place .class)) (among n first (bytes width)) front) in
+        let at = byte-run shape t place width s (h .lawful .in-range .state) (record { offset = offset; at = p }) Cpendsgir is (λ q. exists) in
+        rw (write-call shape s h t offset width value place p (λ q. exists), is)
+        (subst (λ (m : ℕ). rung shape t m u (writeBytes shape Cpendsgir t first (bytes width) x s) ≡ false) (run .0) (run-clears first (bytes width) x (n - first) at (run .1) set))
+
+    given-takes : (e : Entry) → Giving shape t e s → handedOut shape t e s ≡ n + 1024 * u → rung shape t n u (given shape t e s) ≡ false
+    unfolding sourceOf
+    given-takes e o answers =
+        let below = givable shape s (h .lawful) t e o .numbered in
+        let few = h .lawful .in-range .state .limits .few-numbers in
+        let number : e .intid .0 ≡ n = omega (arith, answers, below, few, sgi) in
+        let small : e .intid .0 < 16 = omega (arith, number, sgi) in
+        let source : sourceOf shape t (e .intid .0) s ≡ u = omega (arith, answers, number) in
+        let lowest : lowestSource (sourcesAt shape t (e .intid .0) s) ≡ u = simp (lt-ltb (e .intid .0) 16 small) at source in
+        subst (λ (m : ℕ). rung shape t m u (given shape t e s) ≡ false) number
+        (rw (given-sources shape t e s (givable shape s (h .lawful) t e o) small, lowest)
+        (bit-gone u (sourcesAt shape t (e .intid .0) s) (2 ^ u) low (pow-lt low) (bit-of-power u u low low ∙ eq-eqb u u refl)))
+
+  pub ring-goes : (c : Call) (s : List ℕ) → Controls shape s → isSetup c ≡ false → takesRing t n u c (called c s) ≡ true → rung shape t n u (called c s .state) ≡ false
+  ring-goes (Setup count limit) s h other e = absurd (true≢false other)
+  ring-goes (ReadDistributor v offset width) s h other e = absurd (false≢true e)
+  ring-goes (WriteDistributor v offset width value) s h other e =
+      let clears : Bool = clearsSourceAt n u (locateDistributor offset width) width (value % 2 ^ 32) in
+      subst (λ (w : ℕ). rung shape t n u (called (WriteDistributor w offset width value) s .state) ≡ false) (sym (eqb-true v t (left-true (eqb v t) clears e)))
+      (written s h offset width value (locateDistributor offset width) refl (right-true (eqb v t) clears e))
+  ring-goes (ReadCpuInterface v offset width) s h other e =
+      let handed : Bool = gives (n + 1024 * u) (locateCpuInterface offset width) (called (ReadCpuInterface v offset width) s) in
+      let out = hands-out shape s h v (n + 1024 * u) (λ p. omega (arith, p, sgi)) offset width (right-true (eqb v t) handed e) in
+      rw (out .leaves) (taken v (eqb-true v t (left-true (eqb v t) handed e)) (out .entry) (out .giving) (out .answers))
+    where
+      taken : (w : ℕ) → w ≡ t → (d : Entry) → Giving shape w d s → handedOut shape w d s ≡ n + 1024 * u → rung shape t n u (given shape w d s) ≡ false
+      taken w p d o answers = rw p (given-takes s h d (rw p at o) (rw p at answers))
+  ring-goes (WriteCpuInterface v offset width value) s h other e = absurd (false≢true e)
+  ring-goes (SetLevel v m asserted) s h other e = absurd (false≢true e)
+  ring-goes (Pulse v m) s h other e = absurd (false≢true e)
