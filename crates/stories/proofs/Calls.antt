@@ -29,14 +29,13 @@ use Rattle.end.specs.End as end-of
 use Rattle.places.specs.Places.{names}
 use Rattle.answer.specs.Answer.{went}
 use Rattle.answer.proofs.Present.{found}
-use Rattle.distributor_frame.specs.DistributorFrame.{writeV2Distributor}
 use Rattle.cpu_interface_frame.specs.CpuInterfaceFrame.{readAnswer, readV2CpuInterface, writeV2CpuInterface}
 use Rattle.input.specs.declared.Signal.the-variants.{Edge}
 use Rattle.lawful.specs.Lawful.{Controls}
 use Rattle.wake.specs.Wake.{isSpurious}
 use Rattle.history.specs.History.{Pulse, called}
 use Rattle.history.proofs.Each.{valid}
-use Rattle.waiting.proofs.Accepted.{input-call}
+use Rattle.waiting.proofs.Accepted.{input-call, write-call}
 use Rattle.stories.specs.Stories.{ring, acknowledge, end, deactivate}
 
 -- where the registers are
@@ -92,8 +91,7 @@ module _ (shape : Shape) (s : List ℕ) (h : Controls shape s) (v : ℕ) where
     deactivate-call = simp (valid shape s h, dir-at, decodes, found true shape v (λ q. exists), number)
 
   pub ring-call : (value t : ℕ) → v < shape .count → includes (sgiTarget (value % 2 ^ 32)) v t ≡ true → called (ring v value) s ≡ went shape 1023 s (writeSgir shape v (value % 2 ^ 32) s)
-  unfolding writeV2Distributor
-  ring-call value t exists e = simp (valid shape s h, sgir-at, named (sgiTarget (value % 2 ^ 32)) v t e, found true shape v (λ q. exists))
+  ring-call value t exists e = write-call shape s h v 0xf00 Dword value (plain Sgir) sgir-at (λ q. exists) ∙ simp (named (sgiTarget (value % 2 ^ 32)) v t e)
 
   pub pulse-call : (n : ℕ) → RecordThere shape v n → 16 ≤ n → called (Pulse v n) s ≡ went shape 1023 s (changed shape v n record-of.pulse s)
   pulse-call = input-call shape s h v Edge
