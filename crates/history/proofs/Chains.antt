@@ -1,4 +1,4 @@
--- Every call but setup is a chain of moves, each one that the call makes. Assumes nothing.
+-- A write to the Distributor is a chain of moves, register by register and number by number. Assumes nothing.
 use mathlib.Core.Path.{_≡_, refl, ap, subst}
 use mathlib.Core.Bool.{Bool, true, false, not, cond, _&&_, false≢true}
 use mathlib.Core.List.{List}

@@ -11,7 +11,7 @@ use Rattle.distributor_frame.specs.DistributorFrame.{readV2Distributor, writeV2
 use Rattle.cpu_interface_frame.specs.CpuInterfaceFrame.{readV2CpuInterface, writeV2CpuInterface}
 use Rattle.input.specs.Input.{setLevel, pulse}
 
--- vCPU, offset, width, value; for inputs vCPU and number
+-- count and limit; vCPU, offset, width and, to write, value; for inputs vCPU, number and, for a line, its level
 pub data Call : Type 0 where
   Setup : ℕ → ℕ → Call
   ReadDistributor : ℕ → ℕ → AccessWidth → Call
@@ -60,7 +60,7 @@ unfoldable pub answers : List Call → List ℕ → List Handed
 answers [] s = []
 answers (c ∷ cs) s = handed (called c s) ∷ answers cs (called c s .state)
 
--- a history without another setup
+-- calls without a setup among them
 abbrev pub noSetup : List Call → Bool
 noSetup [] = true
 noSetup (c ∷ cs) = not (isSetup c) && noSetup cs

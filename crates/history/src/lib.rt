@@ -1,1 +1,1 @@
-// No code: calls one after another, as definitions. What holds after any of them stands on these.
+// No code: calls one after another, as data, and what holds after any of them.
