@@ -28,25 +28,31 @@ or-false true = refl
 or-false false = refl
 
 module _ {shape : Shape} {v n : ℕ} {r : InterruptRecord} (h : Fine shape v n r) where
-  -- what is asked stays if these fields do
-  same : (q : InterruptRecord) → q .active ≡ r .active → q .inflight ≡ r .inflight → q .«redelivery_pending» ≡ r .«redelivery_pending»
+  -- what is asked stays if these fields do, one in flight is active and what is noted is in flight
+  kept : (q : InterruptRecord) → (r .inflight ≡ true → q .active ≡ true) → q .inflight ≡ r .inflight
+      → (q .«redelivery_pending» ≡ true → r .inflight ≡ true) → (n < 16 → q .«redelivery_pending» ≡ false)
       → q .«line_asserted» ≡ r .«line_asserted» → q .trigger ≡ r .trigger → q .«cpu_target_mask» ≡ r .«cpu_target_mask» → q .owner ≡ r .owner → Fine shape v n q
-  same q a i d l t m o = record {
+  kept q a i d none l t m o = record {
     orderly = record {
-      active = λ e. a ∙ h .orderly .active (sym i ∙ e);
+      active = λ e. a (sym i ∙ e);
       charged = λ e. subst (Charged shape) (sym o) (h .orderly .charged (sym i ∙ e));
-      noted = λ e. i ∙ h .orderly .noted (sym d ∙ e);
+      noted = λ e. i ∙ d e;
     };
     lawful = record {
       sgi-edge = λ b. t ∙ h .lawful .sgi-edge b;
       sgi-low = λ b. l ∙ h .lawful .sgi-low b;
-      sgi-unnoted = λ b. d ∙ h .lawful .sgi-unnoted b;
+      sgi-unnoted = none;
       existing = rw m (h .lawful .existing);
       unmasked = λ b. m ∙ h .lawful .unmasked b;
       own = λ b e. o ∙ h .lawful .own b (sym i ∙ e);
       idle = λ e. o ∙ h .lawful .idle (sym i ∙ e);
     };
   }
+
+  -- .. so it does if the note stays
+  same : (q : InterruptRecord) → (r .inflight ≡ true → q .active ≡ true) → q .inflight ≡ r .inflight → q .«redelivery_pending» ≡ r .«redelivery_pending»
+      → q .«line_asserted» ≡ r .«line_asserted» → q .trigger ≡ r .trigger → q .«cpu_target_mask» ≡ r .«cpu_target_mask» → q .owner ≡ r .owner → Fine shape v n q
+  same q a i d l t m o = kept q a i (λ e. h .orderly .noted (sym d ∙ e)) (λ b. d ∙ h .lawful .sgi-unnoted b) l t m o
 
   -- .. or if it is no SGI, and what is noted is in flight
   no-sgi : (q : InterruptRecord) → 16 ≤ n → q .active ≡ r .active → q .inflight ≡ r .inflight → (q .«redelivery_pending» ≡ true → r .inflight ≡ true)
@@ -115,27 +121,13 @@ module _ {shape : Shape} {v n : ℕ} {r : InterruptRecord} (h : Fine shape v n r
 
   pub change-fine : (c : Change) → Fits shape v n c r → Fine shape v n (becomes c r)
   unfolding setEnabled setPending setActive cancelInflight setOwner setTrigger setPriority setCpuTargetMask setLevel pulse retire deactivateInflight complete
-  change-fine (SetEnabled e) f = same (setEnabled r e) refl refl refl refl refl refl refl
+  change-fine (SetEnabled e) f = same (setEnabled r e) (h .orderly .active) refl refl refl refl refl refl
   change-fine (SetPending p) f = no-sgi (setPending r p) f refl refl (pending-noted p) refl refl
-  change-fine (SetActive true) f = activated
-    where
-      activated : Fine shape v n (setActive r true)
-      activated = record {
-        orderly = record { active = λ e. refl; charged = h .orderly .charged; noted = h .orderly .noted };
-        lawful = record {
-          sgi-edge = h .lawful .sgi-edge;
-          sgi-low = h .lawful .sgi-low;
-          sgi-unnoted = h .lawful .sgi-unnoted;
-          existing = h .lawful .existing;
-          unmasked = h .lawful .unmasked;
-          own = h .lawful .own;
-          idle = h .lawful .idle;
-        };
-      }
+  change-fine (SetActive true) f = same (setActive r true) (λ e. refl) refl refl refl refl refl refl
   change-fine (SetActive false) f = settled (setActive r false) f refl refl refl refl refl refl
   change-fine CancelInflight f = idled (becomes CancelInflight r) refl refl refl refl refl refl
   change-fine (SetTrigger t) f = no-sgi (setTrigger r t) f refl refl (h .orderly .noted) refl refl
-  change-fine (SetPriority q) f = same (becomes (SetPriority q) r) refl refl refl refl refl refl refl
+  change-fine (SetPriority q) f = same (becomes (SetPriority q) r) (h .orderly .active) refl refl refl refl refl refl
   change-fine (SetCpuTargetMask m) f = targeted
     where
       targeted : Fine shape v n (setCpuTargetMask r m)
@@ -195,18 +187,8 @@ given-fine {r = r} h exists = record {
 -- an SGI is set pending, or not
 pub pended-fine : {shape : Shape} {v n : ℕ} {r : InterruptRecord} (p : Bool) → Fine shape v n r → Fine shape v n (setPending r p)
 unfolding setPending
-pended-fine {r = r} p h = record {
-  orderly = record { active = h .orderly .active; charged = h .orderly .charged; noted = pending-noted h p };
-  lawful = record {
-    sgi-edge = h .lawful .sgi-edge;
-    sgi-low = h .lawful .sgi-low;
-    sgi-unnoted = λ b. rw (h .lawful .sgi-unnoted b) (none p);
-    existing = h .lawful .existing;
-    unmasked = h .lawful .unmasked;
-    own = h .lawful .own;
-    idle = h .lawful .idle;
-  };
-}
+pended-fine {r = r} p h =
+    kept h (setPending r p) (h .orderly .active) refl (pending-noted h p) (λ b. rw (h .lawful .sgi-unnoted b) (none p)) refl refl refl refl
   where
     none : (b : Bool) → cond (not b) false false ≡ false
     none true = refl

@@ -1,18 +1,22 @@
 -- The hypotheses of each story hold of its example, computed, and so what the story promises happens there. Assumes nothing.
 use mathlib.Core.Path.{_≡_, refl, sym, ap, subst}
-use mathlib.Core.Bool.{Bool, true, false, not, _||_, false≢true}
+use mathlib.Core.Bool.{Bool, true, false, not, _&&_, _||_, false≢true}
 use mathlib.Core.List.{List}
 use Prim.Native.Nat.{ℕ}
 use native.Mathlib.Omega.{arith}
-use lib.Dec.{leb}
+use lib.Dec.{leb, ltb}
 use lib.ListN.{length}
-use borrow.Author.Tests.{ltb-true}
+use borrow.Author.Tests.{ltb-true, not-true}
 use Rattle.state.specs.declared.layout.Shape.{Shape}
 use Rattle.state.specs.Lent.{shaped, inLimits}
 use Rattle.state.specs.Layout.{size}
 use Rattle.state.specs.Loop.{everyBelow}
-use Rattle.state.proofs.Tests.{every-at}
-use Rattle.select.specs.Select.{candidate}
+use Rattle.state.proofs.Tests.{left-true, right-true, every-at}
+use Rattle.select.specs.Select.{offered, candidate, bothOn}
+use Rattle.service.specs.Service.{running}
+use Rattle.interrupt.specs.declared.record.InterruptRecord.{InterruptRecord}
+use Rattle.state.specs.declared.layout.InterfaceValue.the-variants.{PriorityMask}
+use Rattle.state.specs.Words.{recordAt, interfaceAt}
 use Rattle.answer.specs.Answer.{Outcome, gave}
 use Rattle.lawful.specs.Lawful.{Controls}
 use Rattle.history.specs.History.{Call, Setup, called, run, noSetup}
@@ -57,6 +61,29 @@ none-ahead shape v n s e m below c =
     go true true p q = absurd (false≢true q)
     go false true p q = absurd (false≢true p)
 
+-- a vCPU can take a number, tested
+abbrev canTake : Shape → ℕ → ℕ → List ℕ → Bool
+canTake shape v n s =
+    let r : InterruptRecord = recordAt shape v n s in
+    bothOn shape v s && (offered v n r && (r .enabled && (not (r .active) && (ltb (r .priority .0) (interfaceAt shape v PriorityMask s) && ltb (r .priority .0) (running shape v s)))))
+
+can-take : (shape : Shape) (v n : ℕ) (s : List ℕ) → canTake shape v n s ≡ true → Takes shape v n s
+can-take shape v n s e =
+    let r : InterruptRecord = recordAt shape v n s in
+    let e₁ = right-true (bothOn shape v s) _ e in
+    let e₂ = right-true (offered v n r) _ e₁ in
+    let e₃ = right-true (r .enabled) _ e₂ in
+    let e₄ = right-true (not (r .active)) _ e₃ in
+    let below : ℕ → Bool = ltb (r .priority .0) in
+    record {
+      on = left-true (bothOn shape v s) _ e;
+      for-it = left-true (offered v n r) _ e₁;
+      enabled = left-true (r .enabled) _ e₂;
+      idle = not-true (r .active) (left-true (not (r .active)) _ e₃);
+      unmasked = ltb-true _ _ (left-true (below (interfaceAt shape v PriorityMask s)) _ e₄);
+      preempts = ltb-true _ _ (right-true (below (interfaceAt shape v PriorityMask s)) _ e₄);
+    }
+
 -- two rings
 abbrev asleep : List ℕ
 asleep = begun 3 34 beforeRings
@@ -70,14 +97,7 @@ rings-controls = controls 3 34 beforeRings refl refl refl
 
 rings-takes : Takes (shaped 3 34) 2 3 asleep
 unfolding run zeros beforeRings computing
-rings-takes = record {
-  on = refl;
-  for-it = refl;
-  enabled = refl;
-  idle = refl;
-  unmasked = ltb-true _ _ refl;
-  preempts = ltb-true _ _ refl;
-}
+rings-takes = can-take (shaped 3 34) 2 3 asleep refl
 
 first-turn : tested (shaped 3 34) 2 3 (bothWait rings) ≡ true
 unfolding run zeros beforeRings twoRingsFrom computing
@@ -135,14 +155,7 @@ pulses-controls = controls 1 34 beforePulse refl refl refl
 
 pulses-takes : Takes (shaped 1 34) 0 33 (turn pulses)
 unfolding run zeros beforePulse pulseInFlightFrom computing
-pulses-takes = record {
-  on = refl;
-  for-it = refl;
-  enabled = refl;
-  idle = refl;
-  unmasked = ltb-true _ _ refl;
-  preempts = ltb-true _ _ refl;
-}
+pulses-takes = can-take (shaped 1 34) 0 33 (turn pulses) refl
 
 its-turn : tested (shaped 1 34) 0 33 (turn pulses) ≡ true
 unfolding run zeros beforePulse pulseInFlightFrom computing

@@ -1,17 +1,20 @@
 -- What holds of a state until a call takes it, whatever it is: if each move that spares it keeps it, and the moves of each call that does not
 -- take it spare it, then it holds after every history that never takes it. Assumes nothing.
-use mathlib.Core.Path.{_≡_, refl, sym, subst, _∙_}
+use mathlib.Core.Path.{_≡_, refl, sym, ap, subst, _∙_}
 use mathlib.Core.Bool.{Bool, true, false, not, true≢false}
 use mathlib.Core.List.{List, [], _∷_}
 use Prim.Native.Nat.{ℕ, _+_, _*_, _-_, _%_, _^_, _≤_, _<_}
 use native.Mathlib.Omega.{arith}
 use lib.Dec.{eqb, leb, ltb}
-use borrow.Author.Tests.{not-true, eq-eqb, le-leb, lt-ltb, leb-true, ltb-true}
+use borrow.Author.Tests.{eqb-true, not-true, eq-eqb, le-leb, lt-ltb, leb-true, ltb-true}
 use Rattle.register.specs.declared.frame.AccessWidth.{AccessWidth}
 use Rattle.register.specs.declared.«cpu_interface».CpuInterfaceRegister.{CpuInterfaceRegister}
 use Rattle.register.specs.declared.«cpu_interface».CpuInterfaceAccess.the-variants as interface
 use Rattle.register.specs.CpuInterface.{locateCpuInterface}
 use Rattle.register.specs.Distributor.{locateDistributor}
+use Rattle.register.specs.declared.ranges.Class.{Class}
+use Rattle.register.specs.Ranges.{numberOf, classOf}
+use Rattle.register.proofs.Map.{class-of-number}
 use Rattle.state.specs.declared.layout.Shape.{Shape}
 use Rattle.state.specs.declared.words.Entry.{Entry}
 use Rattle.state.specs.Words.{enabledAt, interfaceAt}
@@ -38,7 +41,11 @@ use Rattle.history.proofs.Always.{setup-cases, every-other-call}
 use Rattle.history.proofs.Calls.{write-chain, distributor-chain}
 use Rattle.history.proofs.Each.{setup-or-other, each-call}
 use Rattle.history.proofs.Made.{PlaceMade, WriteMade}
-use Rattle.waiting.specs.Waiting.{gives, among, never}
+use Rattle.waiting.specs.Waiting.{isClass, gives, among, never}
+
+-- a class is known by its number
+pub is-class : (this c : Class) → isClass this c ≡ true → c ≡ this
+is-class this c e = sym (class-of-number c) ∙ ap classOf (eqb-true (numberOf c) (numberOf this) e) ∙ class-of-number this
 
 -- a number of a run, by its place there
 pub run-at : (n first at count : ℕ) → at < count → first + at ≡ n → (among n first count ≡ true) × (n - first ≡ at)

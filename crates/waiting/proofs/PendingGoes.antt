@@ -11,9 +11,8 @@ use Rattle.interrupt.specs.Record.{setPending, setLevel, markInflight, setOwner
 use Rattle.word.specs.Fields.{fieldAt}
 use Rattle.word.specs.Word.{recordOf}
 use Rattle.register.specs.declared.frame.AccessWidth.{AccessWidth}
-use Rattle.register.specs.declared.ranges.BitRegister.the-variants.{Igroupr, Isenabler, Icenabler, Ispendr, Icpendr, Isactiver, Icactiver, Icfgr}
-use Rattle.register.specs.declared.ranges.Class.{Class}
-use Rattle.register.specs.declared.ranges.Class.the-variants.{Ctlr, Typer, Iidr, Sgir, Bits, Bytes, Other}
+use Rattle.register.specs.declared.ranges.BitRegister.the-variants.{Icpendr}
+use Rattle.register.specs.declared.ranges.Class.the-variants.{Bits}
 use Rattle.register.specs.declared.distributor.DistributorAccess.{DistributorAccess}
 use Rattle.register.specs.declared.distributor.DistributorAccess.the-variants as distributor
 use Rattle.register.specs.CpuInterface.{locateCpuInterface}
@@ -40,27 +39,10 @@ use Rattle.moves.proofs.Controllers.{changed-record}
 use Rattle.moves.proofs.Slots.{givable}
 use Rattle.input.specs.declared.Signal.the-variants.{Level}
 use Rattle.history.specs.History.{Call, Setup, ReadDistributor, WriteDistributor, ReadCpuInterface, WriteCpuInterface, SetLevel, Pulse, isSetup, called}
-use Rattle.waiting.specs.Waiting.{pends, meets, gives, isIcpendr, among, clearsPendingAt, takesPending}
+use Rattle.waiting.specs.Waiting.{pends, meets, gives, isClass, among, clearsPendingAt, takesPending}
 use Rattle.waiting.proofs.Accepted.{write-call, input-call, hands-out}
-use Rattle.waiting.proofs.Keeping.{among-is, handedOut}
+use Rattle.waiting.proofs.Keeping.{is-class, among-is, handedOut}
 use Rattle.waiting.proofs.PendingMoves.{met-slot, met-there}
-
--- the register by its test
-is-icpendr : (c : Class) → isIcpendr c ≡ true → c ≡ Bits Icpendr
-is-icpendr Ctlr e = absurd (false≢true e)
-is-icpendr Typer e = absurd (false≢true e)
-is-icpendr Iidr e = absurd (false≢true e)
-is-icpendr Sgir e = absurd (false≢true e)
-is-icpendr (Bits Igroupr) e = absurd (false≢true e)
-is-icpendr (Bits Isenabler) e = absurd (false≢true e)
-is-icpendr (Bits Icenabler) e = absurd (false≢true e)
-is-icpendr (Bits Ispendr) e = absurd (false≢true e)
-is-icpendr (Bits Icpendr) e = refl
-is-icpendr (Bits Isactiver) e = absurd (false≢true e)
-is-icpendr (Bits Icactiver) e = absurd (false≢true e)
-is-icpendr (Bits Icfgr) e = absurd (false≢true e)
-is-icpendr (Bytes register) e = absurd (false≢true e)
-is-icpendr Other e = absurd (false≢true e)
 
 -- what the three do to a record
 cleared : (r : InterruptRecord) → setPending r false .pending ≡ false
@@ -94,14 +76,14 @@ module _ (shape : Shape) (n : ℕ) (past : 16 ≤ n) (s : List ℕ) (h : Control
       let first : ℕ = place .first .0 in
       let x : ℕ = value % 2 ^ 32 in
       let field : Bool = eqb (fieldAt 1 (n - first) x) 1 in
-      let front = left-true (isIcpendr (place .class) && among n first 32) field e in
-      let is = is-icpendr (place .class) (left-true (isIcpendr (place .class)) (among n first 32) front) in
-      let run = among-is n first 32 (right-true (isIcpendr (place .class)) (among n first 32) front) in
+      let front = left-true (isClass (Bits Icpendr) (place .class) && among n first 32) field e in
+      let is = is-class (Bits Icpendr) (place .class) (left-true (isClass (Bits Icpendr) (place .class)) (among n first 32) front) in
+      let run = among-is n first 32 (right-true (isClass (Bits Icpendr) (place .class)) (among n first 32) front) in
       let room = h .lawful .in-range .state in
       let located : Located place width = record { offset = offset; at = p } in
       let looked : place .private ≡ true → u < shape .count = λ q. there .banked (omega (arith, private-word shape u place width s room located Icpendr is q, run .0, run .1)) in
       rw (write-call shape s h u offset width value place p (λ q. looked (rw is at q)), is)
-      (word-clears first x (n - first) (bit-word shape u place width s room located Icpendr is looked) (run .1) (run .0) (right-true (isIcpendr (place .class) && among n first 32) field e))
+      (word-clears first x (n - first) (bit-word shape u place width s room located Icpendr is looked) (run .1) (run .0) (right-true (isClass (Bits Icpendr) (place .class) && among n first 32) field e))
 
   -- a line that falls
   levelled : (asserted : Bool) → fallsIdle (recordAt shape u n s) asserted ≡ true → pends shape u n (called (SetLevel u n asserted) s .state) ≡ false

@@ -30,7 +30,7 @@ use Rattle.lawful.specs.Lawful.{Controls}
 use Rattle.moves.specs.Moves.{Change, SetEnabled, SetPending, SetActive, CancelInflight, SetTrigger, SetPriority, SetCpuTargetMask, SetLevel, Pulse, DeactivateInflight, Complete, Move, Changed, Sourced, Kept, Switched, Given, Popped}
 use Rattle.history.specs.History.{Call, ReadCpuInterface, called, run}
 use Rattle.history.proofs.Made.{BitMade, ClassMade, PlaceMade, Ends, WriteMade}
-use Rattle.waiting.specs.Waiting.{pends, meets, gives, isIcpendr, among, clearsPendingAt, takesPending, never}
+use Rattle.waiting.specs.Waiting.{pends, meets, gives, isClass, among, clearsPendingAt, takesPending, never}
 use Rattle.waiting.proofs.Keeping.{run-at, handedOut, handingOut, Waits, call-keeps, history-controls, history-keeps}
 use Rattle.waiting.proofs.PendingMoves.{SparesRecord, met, Spares, move-pends}
 
@@ -48,7 +48,7 @@ module _ (shape : Shape) (v n : ℕ) (there : RecordThere shape v n) (no-sgi : 1
     active-spares c (inr makes) = rw makes tt
 
     -- no other change of a bit register clears it
-    bit-spares : (register : BitRegister) (first : ℕ) → (meets v n u && (isIcpendr (Bits register) && among n first 32 && eqb (fieldAt 1 (n - first) value) 1)) ≡ false
+    bit-spares : (register : BitRegister) (first : ℕ) → (meets v n u && (isClass (Bits Icpendr) (Bits register) && among n first 32 && eqb (fieldAt 1 (n - first) value) 1)) ≡ false
         → BitMade register u first value m → Spares shape v n m s
     bit-spares Igroupr first e made = absurd (made .makes)
     bit-spares Isenabler first e made = rw (made .is, made .makes) (λ p. tt)
@@ -61,7 +61,7 @@ module _ (shape : Shape) (v n : ℕ) (there : RecordThere shape v n) (no-sgi : 1
     bit-spares Icactiver first e made = rw (made .is) (λ p. active-spares (made .change) (made .makes))
     bit-spares Icfgr first e made = rw (made .is, made .makes) (λ p. tt)
 
-    class-spares : (c : Class) (width : AccessWidth) (first : ℕ) → (meets v n u && (isIcpendr c && among n first 32 && eqb (fieldAt 1 (n - first) value) 1)) ≡ false
+    class-spares : (c : Class) (width : AccessWidth) (first : ℕ) → (meets v n u && (isClass (Bits Icpendr) c && among n first 32 && eqb (fieldAt 1 (n - first) value) 1)) ≡ false
         → ClassMade shape u c first width value m → Spares shape v n m s
     class-spares Ctlr width first e made = rw made tt
     class-spares Typer width first e made = absurd made

@@ -11,9 +11,8 @@ use lib.Pow.{pow-lt, pow-pos}
 use borrow.Author.Tests.{lt-ltb, eqb-true, ne-eqb, eq-eqb}
 use Rattle.word.specs.Fields.{fieldAt}
 use Rattle.register.specs.declared.frame.AccessWidth.{AccessWidth}
-use Rattle.register.specs.declared.ranges.ByteRegister.the-variants.{Ipriorityr, Itargetsr, Cpendsgir, Spendsgir}
-use Rattle.register.specs.declared.ranges.Class.{Class}
-use Rattle.register.specs.declared.ranges.Class.the-variants.{Ctlr, Typer, Iidr, Sgir, Bits, Bytes, Other}
+use Rattle.register.specs.declared.ranges.ByteRegister.the-variants.{Cpendsgir}
+use Rattle.register.specs.declared.ranges.Class.the-variants.{Bytes}
 use Rattle.register.specs.declared.distributor.DistributorAccess.{DistributorAccess}
 use Rattle.register.specs.declared.distributor.DistributorAccess.the-variants as distributor
 use Rattle.register.specs.CpuInterface.{locateCpuInterface}
@@ -35,23 +34,10 @@ use Rattle.lawful.specs.Lawful.{Controls}
 use Rattle.moves.specs.Moves.{Giving}
 use Rattle.moves.proofs.Slots.{givable}
 use Rattle.history.specs.History.{Call, Setup, ReadDistributor, WriteDistributor, ReadCpuInterface, WriteCpuInterface, SetLevel, Pulse, isSetup, called}
-use Rattle.waiting.specs.Waiting.{bit, rung, gives, isCpendsgir, among, clearsSourceAt, takesRing}
+use Rattle.waiting.specs.Waiting.{bit, rung, gives, isClass, among, clearsSourceAt, takesRing}
 use Rattle.waiting.proofs.Accepted.{write-call, hands-out}
 use Rattle.waiting.proofs.BitLaws.{bit-gone, bit-of-power}
-use Rattle.waiting.proofs.Keeping.{among-is, handedOut}
-
--- the register by its test
-is-cpendsgir : (c : Class) → isCpendsgir c ≡ true → c ≡ Bytes Cpendsgir
-is-cpendsgir Ctlr e = absurd (false≢true e)
-is-cpendsgir Typer e = absurd (false≢true e)
-is-cpendsgir Iidr e = absurd (false≢true e)
-is-cpendsgir Sgir e = absurd (false≢true e)
-is-cpendsgir (Bits register) e = absurd (false≢true e)
-is-cpendsgir (Bytes Ipriorityr) e = absurd (false≢true e)
-is-cpendsgir (Bytes Itargetsr) e = absurd (false≢true e)
-is-cpendsgir (Bytes Cpendsgir) e = refl
-is-cpendsgir (Bytes Spendsgir) e = absurd (false≢true e)
-is-cpendsgir Other e = absurd (false≢true e)
+use Rattle.waiting.proofs.Keeping.{is-class, among-is, handedOut}
 
 module _ (shape : Shape) (t n u : ℕ) (exists : t < shape .count) (sgi : n < 16) (low : u < 8) where
   module _ (s : List ℕ) (h : Controls shape s) where
@@ -76,10 +62,10 @@ module _ (shape : Shape) (t n u : ℕ) (exists : t < shape .count) (sgi : n < 16
     written offset width value (distributor.At place) p e =
         let first : ℕ = place .first .0 in
         let x : ℕ = value % 2 ^ 32 in
-        let front = left-true (isCpendsgir (place .class) && among n first (bytes width)) (bit u (fieldAt 8 (n - first) x)) e in
-        let set = right-true (isCpendsgir (place .class) && among n first (bytes width)) (bit u (fieldAt 8 (n - first) x)) e in
-        let is = is-cpendsgir (place .class) (left-true (isCpendsgir (place .class)) (among n first (bytes width)) front) in
-        let run = among-is n first (bytes width) (right-true (isCpendsgir (place .class)) (among n first (bytes width)) front) in
+        let front = left-true (isClass (Bytes Cpendsgir) (place .class) && among n first (bytes width)) (bit u (fieldAt 8 (n - first) x)) e in
+        let set = right-true (isClass (Bytes Cpendsgir) (place .class) && among n first (bytes width)) (bit u (fieldAt 8 (n - first) x)) e in
+        let is = is-class (Bytes Cpendsgir) (place .class) (left-true (isClass (Bytes Cpendsgir) (place .class)) (among n first (bytes width)) front) in
+        let run = among-is n first (bytes width) (right-true (isClass (Bytes Cpendsgir) (place .class)) (among n first (bytes width)) front) in
         let at = byte-run shape t place width s (h .lawful .in-range .state) (record { offset = offset; at = p }) Cpendsgir is (λ q. exists) in
         rw (write-call shape s h t offset width value place p (λ q. exists), is)
         (subst (λ (m : ℕ). rung shape t m u (writeBytes shape Cpendsgir t first (bytes width) x s) ≡ false) (run .0) (run-clears first (bytes width) x (n - first) at (run .1) set))

@@ -33,7 +33,7 @@ use Rattle.moves.proofs.Controllers.{sourced-sources}
 use Rattle.moves.proofs.Slots.{Touches, givable, move-others}
 use Rattle.history.specs.History.{Call, ReadCpuInterface, called, run}
 use Rattle.history.proofs.Made.{ClassMade, PlaceMade, WriteMade}
-use Rattle.waiting.specs.Waiting.{bit, rung, gives, isCpendsgir, among, clearsSourceAt, takesRing, never}
+use Rattle.waiting.specs.Waiting.{bit, rung, gives, isClass, among, clearsSourceAt, takesRing, never}
 use Rattle.waiting.proofs.BitLaws.{bit-below, bit-or, bit-cleared, bit-left}
 use Rattle.waiting.proofs.Keeping.{run-at, handedOut, handingOut, Waits, call-keeps, history-controls, history-keeps}
 
@@ -100,7 +100,7 @@ module _ (shape : Shape) (t n u : ℕ) (exists : t < shape .count) (sgi : n < 16
         let here = run-at n first at (bytes width) inside q in
         simp (eq-eqb v t p, here .0, here .1) at e
 
-    class-spares : (c : Class) (first : ℕ) → (eqb v t && (isCpendsgir c && among n first (bytes width) && bit u (fieldAt 8 (n - first) value))) ≡ false
+    class-spares : (c : Class) (first : ℕ) → (eqb v t && (isClass (Bytes Cpendsgir) c && among n first (bytes width) && bit u (fieldAt 8 (n - first) value))) ≡ false
         → ClassMade shape v c first width value m → Spares m s
     class-spares Ctlr first e made = rw made tt
     class-spares Typer first e made = absurd made

@@ -7,10 +7,10 @@ use Prim.Native.Nat.{ℕ, _+_, _*_, _-_, _/_, _%_, _^_}
 use lib.Dec.{eqb, leb, ltb}
 use Rattle.interrupt.specs.Record.{fallsIdle}
 use Rattle.register.specs.declared.frame.AccessWidth.{AccessWidth}
-use Rattle.register.specs.declared.ranges.BitRegister.the-variants.{Igroupr, Isenabler, Icenabler, Ispendr, Icpendr, Isactiver, Icactiver, Icfgr}
-use Rattle.register.specs.declared.ranges.ByteRegister.the-variants.{Ipriorityr, Itargetsr, Cpendsgir, Spendsgir}
+use Rattle.register.specs.declared.ranges.BitRegister.the-variants.{Icpendr}
+use Rattle.register.specs.declared.ranges.ByteRegister.the-variants.{Cpendsgir}
 use Rattle.register.specs.declared.ranges.Class.{Class}
-use Rattle.register.specs.declared.ranges.Class.the-variants.{Ctlr, Typer, Iidr, Sgir, Bits, Bytes, Other}
+use Rattle.register.specs.declared.ranges.Class.the-variants.{Bits, Bytes}
 use Rattle.register.specs.declared.distributor.DistributorAccess.{DistributorAccess}
 use Rattle.register.specs.declared.distributor.DistributorAccess.the-variants as distributor
 use Rattle.register.specs.declared.«cpu_interface».CpuInterfaceAccess.{CpuInterfaceAccess}
@@ -18,6 +18,7 @@ use Rattle.register.specs.declared.«cpu_interface».CpuInterfaceAccess.the-var
 use Rattle.register.specs.CpuInterface.{locateCpuInterface}
 use Rattle.register.specs.Distributor.{locateDistributor}
 use Rattle.register.specs.Frame.{bytes}
+use Rattle.register.specs.Ranges.{numberOf}
 use Rattle.word.specs.Fields.{fieldAt}
 use Rattle.state.specs.declared.layout.Shape.{Shape}
 use Rattle.state.specs.Words.{recordAt, sourcesAt}
@@ -46,34 +47,9 @@ abbrev pub gives : ℕ → CpuInterfaceAccess → Outcome → Bool
 gives x (interface.Refused r) o = false
 gives x (interface.At register) o = acknowledging register && eqb (o .refusal) 0 && eqb (o .value) x
 
--- the two clear registers
-abbrev pub isCpendsgir : Class → Bool
-isCpendsgir Ctlr = false
-isCpendsgir Typer = false
-isCpendsgir Iidr = false
-isCpendsgir Sgir = false
-isCpendsgir (Bits register) = false
-isCpendsgir (Bytes Ipriorityr) = false
-isCpendsgir (Bytes Itargetsr) = false
-isCpendsgir (Bytes Cpendsgir) = true
-isCpendsgir (Bytes Spendsgir) = false
-isCpendsgir Other = false
-
-abbrev pub isIcpendr : Class → Bool
-isIcpendr Ctlr = false
-isIcpendr Typer = false
-isIcpendr Iidr = false
-isIcpendr Sgir = false
-isIcpendr (Bits Igroupr) = false
-isIcpendr (Bits Isenabler) = false
-isIcpendr (Bits Icenabler) = false
-isIcpendr (Bits Ispendr) = false
-isIcpendr (Bits Icpendr) = true
-isIcpendr (Bits Isactiver) = false
-isIcpendr (Bits Icactiver) = false
-isIcpendr (Bits Icfgr) = false
-isIcpendr (Bytes register) = false
-isIcpendr Other = false
+-- the class c is this one: classes go by their numbers
+abbrev pub isClass : Class → Class → Bool
+isClass this c = eqb (numberOf c) (numberOf this)
 
 -- n is one of the `count` numbers from `first` up
 abbrev pub among : ℕ → ℕ → ℕ → Bool
@@ -84,13 +60,13 @@ abbrev pub clearsSourceAt : ℕ → ℕ → DistributorAccess → AccessWidth �
 clearsSourceAt n u (distributor.Refused r) width value = false
 clearsSourceAt n u distributor.PrivateWidth width value = false
 clearsSourceAt n u (distributor.At place) width value =
-    isCpendsgir (place .class) && among n (place .first .0) (bytes width) && bit u (fieldAt 8 (n - place .first .0) value)
+    isClass (Bytes Cpendsgir) (place .class) && among n (place .first .0) (bytes width) && bit u (fieldAt 8 (n - place .first .0) value)
 
 -- "Writing a 1 bit .. to a clear register" of pending bits
 abbrev pub clearsPendingAt : ℕ → DistributorAccess → ℕ → Bool
 clearsPendingAt n (distributor.Refused r) value = false
 clearsPendingAt n distributor.PrivateWidth value = false
-clearsPendingAt n (distributor.At place) value = isIcpendr (place .class) && among n (place .first .0) 32 && eqb (fieldAt 1 (n - place .first .0) value) 1
+clearsPendingAt n (distributor.At place) value = isClass (Bits Icpendr) (place .class) && among n (place .first .0) 32 && eqb (fieldAt 1 (n - place .first .0) value) 1
 
 -- a ring of u is taken from the SGI n at t: all starts anew, it is given, or t clears it
 abbrev pub takesRing : ℕ → ℕ → ℕ → Call → Outcome → Bool
