@@ -32,18 +32,8 @@ pub record SgiFine (shape : Shape) (v n : ℕ) (s : List ℕ) : Type 0 where
   pub sourced : recordAt shape v n s .pending ≡ not (eqb (sourcesAt shape v n s) 0)
 
 module _ (shape : Shape) (s : List ℕ) (h : Lawful shape s) where
-  pub stack-fine : (v : ℕ) → v < shape .count → StackFine shape v s
-  stack-fine v b = record {
-    falling = λ i j k d. h .orderly .falling v i j b k d;
-    below-idle = λ i d. h .orderly .below-idle v i b d;
-    numbered = λ i d. h .numbered v i b d;
-  }
-
   pub record-fine : (v n : ℕ) → RecordThere shape v n → Fine shape v n (recordAt shape v n s)
   record-fine v n there = record { orderly = h .orderly .records v n there; lawful = h .records v n there }
-
-  pub sgi-fine : (v n : ℕ) → v < shape .count → n < 16 → SgiFine shape v n s
-  sgi-fine v n b sgi = record { sourced = h .orderly .sourced v n b sgi }
 
 -- .. and back
 module _ (shape : Shape) (r : List ℕ)
