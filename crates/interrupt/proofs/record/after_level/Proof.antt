@@ -23,5 +23,6 @@ unfolding code.routine tablesOf
 after-level-spec 𝓤 H 𝓜 𝓖 𝓡 =
     entered 𝓤 H (tripleOf 𝓤 H (𝓖 .A) after-level.signature (after-level.spec 𝓤 H (𝓖 .A) (𝓜 .mem) (𝓡 .run)))
     (tables 𝓤 H 𝓜 𝓡 code.env .C) (tables 𝓤 H 𝓜 𝓡 code.env .Λ) #after-level code.function (code.unfolded 𝓤 H 𝓜 𝓡)
-    (lends-meets T.the-type (bools ∷ []) T′.the-laws refl 𝓤 H (𝓖 .A) (givenOf 𝓤 H 𝓜 𝓖) (λ r x. transition.setLevel r (x .0)) (tablesOf 𝓤 H 𝓜 (tables 𝓤 H 𝓜 𝓡 code.env)) set-level-def.name
+    (lends-meets T.the-type (bools ∷ []) T′.the-laws refl 𝓤 H (𝓖 .A) (givenOf 𝓤 H 𝓜 𝓖) (λ r x. transition.setLevel r (x .0))
+    (after-level.clauses 𝓤 H (𝓖 .A) (𝓜 .mem) (𝓡 .run)) refl (tablesOf 𝓤 H 𝓜 (tables 𝓤 H 𝓜 𝓡 code.env)) set-level-def.name
     (cited 𝓤 H (tripleOf 𝓤 H (𝓖 .A) set-level.signature (set-level.spec 𝓤 H (𝓖 .A) (𝓜 .mem) (𝓡 .run))) 𝓜 𝓡 code.env set-level-def.name set-level-def.routine code.calls-interrupt·record·InterruptRecord·set-level (set-level-thm.met 𝓤 H 𝓜 𝓖 𝓡)))

@@ -22,5 +22,6 @@ unfolding code.routine tablesOf
 after-pulse-spec 𝓤 H 𝓜 𝓖 𝓡 =
     entered 𝓤 H (tripleOf 𝓤 H (𝓖 .A) after-pulse.signature (after-pulse.spec 𝓤 H (𝓖 .A) (𝓜 .mem) (𝓡 .run)))
     (tables 𝓤 H 𝓜 𝓡 code.env .C) (tables 𝓤 H 𝓜 𝓡 code.env .Λ) #after-pulse code.function (code.unfolded 𝓤 H 𝓜 𝓡)
-    (lends-meets T.the-type [] T′.the-laws refl 𝓤 H (𝓖 .A) (givenOf 𝓤 H 𝓜 𝓖) (λ r _. transition.pulse r) (tablesOf 𝓤 H 𝓜 (tables 𝓤 H 𝓜 𝓡 code.env)) pulse-def.name
+    (lends-meets T.the-type [] T′.the-laws refl 𝓤 H (𝓖 .A) (givenOf 𝓤 H 𝓜 𝓖) (λ r _. transition.pulse r)
+    (after-pulse.clauses 𝓤 H (𝓖 .A) (𝓜 .mem) (𝓡 .run)) refl (tablesOf 𝓤 H 𝓜 (tables 𝓤 H 𝓜 𝓡 code.env)) pulse-def.name
     (cited 𝓤 H (tripleOf 𝓤 H (𝓖 .A) pulse.signature (pulse.spec 𝓤 H (𝓖 .A) (𝓜 .mem) (𝓡 .run))) 𝓜 𝓡 code.env pulse-def.name pulse-def.routine code.calls-interrupt·record·InterruptRecord·pulse (pulse-thm.met 𝓤 H 𝓜 𝓖 𝓡)))
