@@ -10,6 +10,8 @@ use answer::done;
 use interrupt::GicVcpuId;
 use interrupt::IntId;
 use interrupt::InterruptRecord;
+use interrupt::record::after_level;
+use interrupt::record::after_pulse;
 use register::Refusal;
 use state::Lent;
 use state::Shape;
@@ -34,8 +36,8 @@ fn signalled(record: InterruptRecord, signal: Signal) -> InterruptRecord
     ensures { λ r. ⌜ r ≡ signalled signal «record» ⌝ }
 {
     match signal {
-        Signal::Level(asserted) => record.leveled(asserted),
-        Signal::Edge => record.pulsed(),
+        Signal::Level(asserted) => after_level(record, asserted),
+        Signal::Edge => after_pulse(record),
     }
 }
 

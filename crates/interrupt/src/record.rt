@@ -1,4 +1,5 @@
-// One interrupt's record and every transition of interrupt.rs, by value: the record goes in as `self` and comes back.
+// One interrupt's record and every transition of interrupt.rs, by value: the record goes in as `self` and comes back. The two that
+// a device calls, `set_level` and `pulse`, change it where the caller keeps it.
 // Flags are joined by `&` and `|`, where the Rust has `&&` and `||`: the same value, and one test where a branch would make two.
 ghost use mathlib.Core.Path.{_≡_};
 ghost use Rattle.interrupt.specs.Record.{newRecord, startingRecord, setEnabled, setPending, setActive, stateOf, setState, hasDeliveryState, clearDeliveryState, markInflight, synchronizeInflight, cancelInflight, finishInflight, deactivateInflight, setPriority, setTrigger, setCpuTargetMask, setOwner, setLevel, pulse, complete, deliverable, held, withTrigger, withMask, withOwner};
@@ -235,8 +236,8 @@ impl InterruptRecord {
         self.with(trigger, cpu_target_mask, owner)
     }
 
-    // Below `set_level`, whose form over `&mut self` stands above it.
-    pub fn leveled(mut self, asserted: bool) -> Self
+    // `set_level` by value.
+    fn leveled(mut self, asserted: bool) -> Self
         ensures { λ r. ⌜ r ≡ setLevel self asserted ⌝ }
     {
         let rising_edge = asserted & !self.line_asserted;
@@ -255,8 +256,8 @@ impl InterruptRecord {
         self
     }
 
-    // Below `pulse`.
-    pub fn pulsed(mut self) -> Self
+    // `pulse` by value.
+    fn pulsed(mut self) -> Self
         ensures { λ r. ⌜ r ≡ pulse self ⌝ }
     {
         self.pending = true;
@@ -265,6 +266,18 @@ impl InterruptRecord {
             self.redelivery_pending = true;
         }
         self
+    }
+
+    pub fn set_level(&mut self, asserted: bool)
+        ensures { λ _. ⌜ now (self .exit) ≡ setLevel (now (self .entry)) asserted ⌝ }
+    {
+        *self = (*self).leveled(asserted);
+    }
+
+    pub fn pulse(&mut self)
+        ensures { λ _. ⌜ now (self .exit) ≡ pulse (now (self .entry)) ⌝ }
+    {
+        *self = (*self).pulsed();
     }
 
     pub fn complete(mut self) -> Self
@@ -282,4 +295,19 @@ impl InterruptRecord {
     {
         self.enabled & self.pending
     }
+}
+
+// `set_level` and `pulse` on a record of the function's own: whoever calls these lends nothing, and is proved without a walk.
+pub fn after_level(mut record: InterruptRecord, asserted: bool) -> InterruptRecord
+    ensures { λ r. ⌜ r ≡ setLevel «record» asserted ⌝ }
+{
+    record.set_level(asserted);
+    record
+}
+
+pub fn after_pulse(mut record: InterruptRecord) -> InterruptRecord
+    ensures { λ r. ⌜ r ≡ pulse «record» ⌝ }
+{
+    record.pulse();
+    record
 }

@@ -10,6 +10,8 @@ use interrupt::InterruptState;
 use interrupt::Owner;
 use interrupt::Priority;
 use interrupt::TriggerMode;
+use interrupt::record::after_level;
+use interrupt::record::after_pulse;
 use libc::STDOUT_FILENO;
 
 fn flag(set: bool, letter: u8) -> u8 {
@@ -133,9 +135,9 @@ fn delivery(r: InterruptRecord) {
 }
 
 fn inputs(r: InterruptRecord) {
-    show(r.leveled(false));
-    show(r.leveled(true));
-    show(r.pulsed());
+    show(after_level(r, false));
+    show(after_level(r, true));
+    show(after_pulse(r));
 }
 
 fn settings(r: InterruptRecord) {

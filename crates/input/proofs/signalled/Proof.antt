@@ -7,22 +7,22 @@ use Rattle.input.proofs.signalled.Tie as tie
 enum-known-signal : tie.Need-enum-known-signal
 enum-known-signal c = search needs
 
-leveled-requires : tie.Need-leveled-requires
-leveled-requires c κs = search needs
+after-level-requires : tie.Need-after-level-requires
+after-level-requires c κs = search needs
 
 enum-told : tie.Need-enum-told
 enum-told c = search needs
 
-pulsed-requires : tie.Need-pulsed-requires
-pulsed-requires c κs = search needs
+after-pulse-requires : tie.Need-after-pulse-requires
+after-pulse-requires c κs = search needs
 
 returns : tie.Need-returns
-returns c = c .leveled .ensures ∙ simp (c .before .before .signal .given .1)
+returns c = c .after-level .ensures ∙ simp (c .before .before .signal .given .1)
 
 returns-2 : tie.Need-returns-2
-returns-2 c = c .pulsed .ensures ∙ simp (c .before .enum-told .given .1)
+returns-2 c = c .after-pulse .ensures ∙ simp (c .before .enum-told .given .1)
 
 pub signalled-spec : {M : Type 1} → statement M
 signalled-spec =
     tie.close
-    (tie.spec enum-known-signal leveled-requires enum-told pulsed-requires returns returns-2)
+    (tie.spec enum-known-signal after-level-requires enum-told after-pulse-requires returns returns-2)

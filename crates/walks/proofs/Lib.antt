@@ -1,0 +1,7 @@
+-- Walks by hand that are proved once, for every struct of plain data and every callee. They say nothing of any crate.
+pub mod Scalar
+pub mod Scalars
+pub mod Forms
+pub mod Parameters
+pub mod Thin
+pub mod Lends
