@@ -1,121 +1,172 @@
 -- The least key of all records is the best candidate's. Assumes nothing.
-use mathlib.Core.Path.{_≡_, refl, sym, ap, _∙_, subst}
+use mathlib.Core.Path.{_≡_, refl, sym, ap, _∙_}
 use mathlib.Core.Bool.{Bool, true, false, cond, _&&_}
 use mathlib.Core.List.{List}
 use Prim.Native.Nat.{ℕ, zero, suc, _+_, _*_, _-_, _/_, _%_, _≤_, _<_}
-use native.Mathlib.Nat.{add-zero, add-suc}
+use native.Mathlib.Nat.{add-zero, zero-add, add-suc, le-refl}
 use native.Mathlib.Omega.{arith}
 use lib.Dec.{ltb}
 use lib.ListN.{length, getD}
 use borrow.Author.Tests.{lt-ltb, le-ltb, ltb-true, ltb-false}
 use Rattle.state.specs.declared.layout.Shape.{Shape}
 use Rattle.state.specs.declared.layout.InterfaceValue.the-variants.{PriorityMask}
+use Rattle.state.specs.declared.words.Entry.{Entry}
 use Rattle.state.specs.Layout.{place, spiStart, Limits}
 use Rattle.state.specs.Words.{wordAt, recordSlot, recordAt, interfaceAt}
 use Rattle.state.proofs.Accessors.{record-run}
+use Rattle.state.proofs.Tests.{left-true, right-true}
 use Rattle.word.specs.Word.{recordOf}
-use Rattle.word.proofs.RecordWord.{decoded-in-range}
 use Rattle.select.specs.declared.Selected.{Selected}
 use Rattle.select.specs.declared.Selected.the-variants.{Best, Nothing}
-use Rattle.select.specs.Select.{candidate, entryFor, wins, better, bestBelow, best, Looked}
-use Rattle.select.specs.Keys.{noKey, keyOf, selectedBy, keyFor, least, leastKey}
+use Rattle.select.specs.Select.{offered, candidate, entryFor, wins, better, bestBelow, best, Looked}
+use Rattle.select.specs.Keys.{ready, neededOfSpi, keyOf, selectedBy, least, withRecord, leastKey}
+use Rattle.select.proofs.Ready.{passes, ready-private, ready-spi}
 
--- a selection among the numbers below n
-abbrev Bounded : ℕ → Selected → Type 0
-Bounded n Nothing = Unit
-Bounded n (Best e) = (e .intid .0 < n) × (e .priority .0 < 256)
+-- a selection among the numbers below n, of a priority below the mask
+abbrev Bounded : ℕ → ℕ → Selected → Type 0
+Bounded mask n Nothing = Unit
+Bounded mask n (Best e) = (e .intid .0 < n) × (e .priority .0 < mask)
 
-one-more : (n : ℕ) (b : Selected) → Bounded n b → Bounded (suc n) b
-one-more n Nothing h = tt
-one-more n (Best e) h = (let a : e .intid .0 < n = h .0 in omega arith, h .1)
+one-more : (mask n : ℕ) (b : Selected) → Bounded mask n b → Bounded mask (suc n) b
+one-more mask n Nothing h = tt
+one-more mask n (Best e) h = (let a : e .intid .0 < n = h .0 in omega arith, h .1)
 
-key-back : (n : ℕ) (b : Selected) → n ≤ 1024 → Bounded n b → selectedBy (keyOf b) ≡ b
-key-back n Nothing h w = refl
-key-back n (Best e) h w =
+key-back : (mask n : ℕ) (b : Selected) → n ≤ 1024 → Bounded mask n b → selectedBy (1024 * mask) (keyOf (1024 * mask) b) ≡ b
+key-back mask n Nothing h w = simp (le-ltb (1024 * mask) (1024 * mask) (le-refl (1024 * mask)))
+key-back mask n (Best e) h w =
     let i : e .intid .0 < n = w .0 in
-    let p : e .priority .0 < 256 = w .1 in
-    let k : 1024 * e .priority .0 + e .intid .0 < noKey = omega arith in
+    let p : e .priority .0 < mask = w .1 in
+    let k : 1024 * e .priority .0 + e .intid .0 < 1024 * mask = omega arith in
     let a : (1024 * e .priority .0 + e .intid .0) % 1024 ≡ e .intid .0 = omega arith in
     let b : (1024 * e .priority .0 + e .intid .0) / 1024 ≡ e .priority .0 = omega arith in
     simp (lt-ltb _ _ k, a, b)
 
-module _ (shape : Shape) (v : ℕ) (s : List ℕ) where
-  priority-byte : (n : ℕ) → recordAt shape v n s .priority .0 < 256
-  priority-byte n = decoded-in-range (wordAt shape (recordSlot v n) s) .priority-byte
+-- what is at or past the mask changes nothing
+past-mask : (mask n k : ℕ) (x : Selected) → n ≤ 1024 → Bounded mask n x → 1024 * mask ≤ k → least k (keyOf (1024 * mask) x) ≡ keyOf (1024 * mask) x
+past-mask mask n k Nothing h w past = simp (le-ltb k (1024 * mask) past)
+past-mask mask n k (Best e) h w past =
+    let i : e .intid .0 < n = w .0 in
+    let p : e .priority .0 < mask = w .1 in
+    simp (le-ltb k (1024 * e .priority .0 + e .intid .0) (omega arith))
 
-  bounded : (n : ℕ) → Bounded n (bestBelow shape v s n)
+module _ (shape : Shape) (v : ℕ) (s : List ℕ) where
+  abbrev mask : ℕ
+  mask = interfaceAt shape v PriorityMask s
+
+  abbrev priority : ℕ → ℕ
+  priority n = recordAt shape v n s .priority .0
+
+  abbrev ready-at : ℕ → Bool
+  ready-at n = passes (offered v n (recordAt shape v n s)) (recordAt shape v n s)
+
+  -- the key of the best of the numbers below n
+  abbrev best-key : ℕ → ℕ
+  best-key n = keyOf (1024 * mask) (bestBelow shape v s n)
+
+  -- passes, and is urgent
+  candidate-is : (n : ℕ) → candidate shape v s n ≡ (ready-at n && ltb (priority n) mask)
+  unfolding candidate
+  candidate-is n = refl
+
+  bounded : (n : ℕ) → Bounded mask n (bestBelow shape v s n)
   unfolding bestBelow
   bounded zero = tt
-  bounded (suc n) = go (candidate shape v s n && wins (entryFor shape v s n) (bestBelow shape v s n)) (bounded n)
+  bounded (suc n) = go (candidate shape v s n && wins (entryFor shape v s n) (bestBelow shape v s n)) refl (bounded n)
     where
-      go : (b : Bool) → Bounded n (bestBelow shape v s n) → Bounded (suc n) (cond b (Best (entryFor shape v s n)) (bestBelow shape v s n))
-      go true h = (omega arith, priority-byte n)
-      go false h = one-more n (bestBelow shape v s n) h
+      go : (b : Bool) → (candidate shape v s n && wins (entryFor shape v s n) (bestBelow shape v s n)) ≡ b → Bounded mask n (bestBelow shape v s n)
+          → Bounded mask (suc n) (cond b (Best (entryFor shape v s n)) (bestBelow shape v s n))
+      go true p h =
+          let chosen = sym (candidate-is n) ∙ left-true (candidate shape v s n) (wins (entryFor shape v s n) (bestBelow shape v s n)) p in
+          (omega arith, ltb-true (priority n) mask (right-true (ready-at n) (ltb (priority n) mask) chosen))
+      go false p h = one-more mask n (bestBelow shape v s n) h
 
   -- one number more
-  key-step : (n : ℕ) (b : Bool) (x : Selected) → n < 1020 → Bounded n x
-      → least (cond b (1024 * recordAt shape v n s .priority .0 + n) noKey) (keyOf x) ≡ keyOf (better b (entryFor shape v s n) x)
-  key-step n false Nothing h w = refl
-  key-step n false (Best e) h w =
-      let i : e .intid .0 < n = w .0 in
-      let p : e .priority .0 < 256 = w .1 in
-      simp (le-ltb noKey (1024 * e .priority .0 + e .intid .0) (omega arith))
-  key-step n true Nothing h w = let p = priority-byte n in simp (lt-ltb (1024 * recordAt shape v n s .priority .0 + n) noKey (omega (arith, p)))
-  key-step n true (Best e) h w = go (ltb q (e .priority .0)) refl
+  key-step : (n : ℕ) (fit : Bool) (x : Selected) → n < 1020 → Bounded mask n x
+      → cond fit (least (1024 * priority n + n) (keyOf (1024 * mask) x)) (keyOf (1024 * mask) x) ≡ keyOf (1024 * mask) (better (fit && ltb (priority n) mask) (entryFor shape v s n) x)
+  key-step n false x h w = refl
+  key-step n true x h w = go (ltb q mask) refl x w
     where
       q : ℕ
-      q = recordAt shape v n s .priority .0
+      q = priority n
 
-      go : (b : Bool) → ltb q (e .priority .0) ≡ b
-          → least (1024 * q + n) (1024 * e .priority .0 + e .intid .0) ≡ keyOf (cond b (Best (entryFor shape v s n)) (Best e))
-      go true p = let a = ltb-true q (e .priority .0) p in simp (lt-ltb (1024 * q + n) (1024 * e .priority .0 + e .intid .0) (omega (arith, a)))
-      go false p = let a = ltb-false q (e .priority .0) p in let i : e .intid .0 < n = w .0 in simp (le-ltb (1024 * q + n) (1024 * e .priority .0 + e .intid .0) (omega (arith, a, i)))
+      tie : (e : Entry) (b : Bool) → e .intid .0 < n → ltb q (e .priority .0) ≡ b
+          → least (1024 * q + n) (1024 * e .priority .0 + e .intid .0) ≡ keyOf (1024 * mask) (cond b (Best (entryFor shape v s n)) (Best e))
+      tie e true i p = let a = ltb-true q (e .priority .0) p in simp (lt-ltb (1024 * q + n) (1024 * e .priority .0 + e .intid .0) (omega (arith, a)))
+      tie e false i p = let a = ltb-false q (e .priority .0) p in simp (le-ltb (1024 * q + n) (1024 * e .priority .0 + e .intid .0) (omega (arith, a, i)))
 
-  key-at : (n k : ℕ) → place shape (recordSlot v n) ≡ k
-      → keyFor (interfaceAt shape v PriorityMask s) v n (recordOf (getD s k 0)) ≡ cond (candidate shape v s n) (1024 * recordAt shape v n s .priority .0 + n) noKey
-  unfolding keyFor candidate
-  key-at n k p =
-      subst (λ (x : ℕ). keyFor (interfaceAt shape v PriorityMask s) v n (recordOf (getD s x 0)) ≡ cond (candidate shape v s n) (1024 * recordAt shape v n s .priority .0 + n) noKey) p refl
+      go : (b : Bool) → ltb q mask ≡ b → (x : Selected) → Bounded mask n x → least (1024 * q + n) (keyOf (1024 * mask) x) ≡ keyOf (1024 * mask) (better b (entryFor shape v s n) x)
+      go false p x w = let a = ltb-false q mask p in past-mask mask n (1024 * q + n) x (omega arith) w (omega (arith, a))
+      go true p Nothing w = let a = ltb-true q mask p in simp (lt-ltb (1024 * q + n) (1024 * mask) (omega (arith, a)))
+      go true p (Best e) w = tie e (ltb q (e .priority .0)) (w .0) refl
 
   one-more-best : (n : ℕ) → bestBelow shape v s (suc n) ≡ better (candidate shape v s n) (entryFor shape v s n) (bestBelow shape v s n)
   unfolding bestBelow
   one-more-best n = refl
 
-  -- a run of records, after the numbers before it
-  pub key-run : (first base : ℕ) (i : ℕ) → first + i ≤ 1020 → ((j : ℕ) → j < i → place shape (recordSlot v (first + j)) ≡ base + j)
-      → leastKey (interfaceAt shape v PriorityMask s) v first base s (keyOf (bestBelow shape v s first)) i ≡ keyOf (bestBelow shape v s (first + i))
-  unfolding leastKey
-  key-run first base zero h beside = rw add-zero
-  key-run first base (suc i) h beside =
-      let n : ℕ = first + i in
-      let so-far = leastKey (interfaceAt shape v PriorityMask s) v first base s (keyOf (bestBelow shape v s first)) i in
-      ap (λ (k : ℕ). least k so-far) (key-at n (base + i) (beside i (omega arith)))
-      ∙ ap (λ (k : ℕ). least (cond (candidate shape v s n) (1024 * recordAt shape v n s .priority .0 + n) noKey) k) (key-run first base i (omega arith) (λ j b. beside j (omega arith)))
-      ∙ key-step n (candidate shape v s n) (bestBelow shape v s n) (omega arith) (bounded n)
-      ∙ ap keyOf (sym (one-more-best n))
-      ∙ ap (λ (k : ℕ). keyOf (bestBelow shape v s k)) (sym (add-suc first i))
+  module _ (needed offset : ℕ) where
+    -- the word at `offset + n` is the record of the number n, and the bits `needed` are those that it takes
+    abbrev Tested : ℕ → Type 0
+    Tested n = (place shape (recordSlot v n) ≡ offset + n) × ((w : ℕ) → ready needed w ≡ passes (offered v n (recordOf w)) (recordOf w))
+
+    -- the word at its place
+    at-place : (n k so-far : ℕ) → place shape (recordSlot v n) ≡ k → withRecord needed n (getD s k 0) so-far ≡ withRecord needed n (wordAt shape (recordSlot v n) s) so-far
+    at-place n k so-far p = ap (λ (x : ℕ). withRecord needed n (getD s x 0) so-far) (sym p)
+
+    record-step : (n : ℕ) → n < 1020 → Tested n → withRecord needed n (getD s (offset + n) 0) (best-key n) ≡ best-key (suc n)
+    unfolding recordOf
+    record-step n h t =
+        let x = bestBelow shape v s n in
+        at-place n (offset + n) (best-key n) (t .0)
+        ∙ rw (t .1 (wordAt shape (recordSlot v n) s)) (key-step n (ready-at n) x h (bounded n))
+        ∙ ap (λ (b : Bool). keyOf (1024 * mask) (better b (entryFor shape v s n) x)) (sym (candidate-is n))
+        ∙ ap (keyOf (1024 * mask)) (sym (one-more-best n))
+
+    -- a run of records, after the numbers before it
+    pub key-run : (first i : ℕ) → first + i ≤ 1020 → ((j : ℕ) → j < i → Tested (first + j))
+        → leastKey needed offset first s (best-key first) i ≡ best-key (first + i)
+    unfolding leastKey
+    key-run first zero h tested = rw add-zero
+    key-run first (suc i) h tested =
+        ap (withRecord needed (first + i) (getD s (offset + (first + i)) 0)) (key-run first i (omega arith) (λ j b. tested j (omega arith)))
+        ∙ record-step (first + i) (omega arith) (tested i (omega arith))
+        ∙ ap best-key (sym (add-suc first i))
 
   pub private-inside : Looked shape v s → place shape (recordSlot v 0) + 32 ≤ length s
   unfolding recordSlot
   private-inside h = omega arith
 
-  -- the private records, and after them the SPIs
-  pub key-private : leastKey (interfaceAt shape v PriorityMask s) v 0 (place shape (recordSlot v 0)) s noKey 32 ≡ keyOf (bestBelow shape v s 32)
-  unfolding bestBelow
-  key-private = key-run 0 (place shape (recordSlot v 0)) 32 (omega arith) (λ j b. record-run shape v 0 j (λ p. omega arith))
+  pub spis-inside : Looked shape v s → spiStart shape - 32 + shape .limit ≤ length s
+  spis-inside h = omega arith
 
-  pub key-spis : Limits shape → leastKey (interfaceAt shape v PriorityMask s) v 32 (spiStart shape) s (keyOf (bestBelow shape v s 32)) (shape .limit - 32) ≡ keyOf (best shape v s)
+  -- the private records, and after them the SPIs
+  pub key-private : leastKey 3 (place shape (recordSlot v 0)) 0 s (1024 * mask) 32 ≡ best-key 32
+  unfolding bestBelow
+  key-private = key-run 3 (place shape (recordSlot v 0)) 0 32 (omega arith) tested
+    where
+      tested : (j : ℕ) → j < 32 → Tested 3 (place shape (recordSlot v 0)) (0 + j)
+      tested j b = (
+        record-run shape v 0 j (λ p. omega arith) ∙ ap (λ (k : ℕ). place shape (recordSlot v 0) + k) (sym (zero-add j)),
+        λ w. rw (lt-ltb (0 + j) 32 (omega arith)) (ready-private w),
+      )
+
+  pub key-spis : Limits shape → v < 8 → leastKey (neededOfSpi v) (spiStart shape - 32) 32 s (best-key 32) (shape .limit - 32) ≡ best-key (shape .limit)
   unfolding recordSlot
-  key-spis l =
+  key-spis l few =
       let all : 32 + (shape .limit - 32) ≡ shape .limit = omega arith in
-      key-run 32 (spiStart shape) (shape .limit - 32) (omega arith) (λ j b. record-run shape v 32 j (λ p. absurd (not-lt-self p)) ∙ spi-first j)
-      ∙ ap (λ (k : ℕ). keyOf (bestBelow shape v s k)) all
+      key-run (neededOfSpi v) (spiStart shape - 32) 32 (shape .limit - 32) (omega arith) tested
+      ∙ ap best-key all
     where
       not-lt-self : 32 < 32 → ⊥
       not-lt-self p = omega arith
 
-      spi-first : (j : ℕ) → place shape (recordSlot v 32) + j ≡ spiStart shape + j
+      spi-first : (j : ℕ) → place shape (recordSlot v 32) + j ≡ spiStart shape - 32 + (32 + j)
       spi-first j = omega arith
 
-  pub selected-best : Limits shape → selectedBy (keyOf (best shape v s)) ≡ best shape v s
-  selected-best l = key-back (shape .limit) (best shape v s) (omega arith) (bounded (shape .limit))
+      tested : (j : ℕ) → j < shape .limit - 32 → Tested (neededOfSpi v) (spiStart shape - 32) (32 + j)
+      tested j b = (
+        record-run shape v 32 j (λ p. absurd (not-lt-self p)) ∙ spi-first j,
+        λ w. rw (le-ltb (32 + j) 32 (omega arith)) (ready-spi v w few),
+      )
+
+  pub selected-best : Limits shape → selectedBy (1024 * mask) (best-key (shape .limit)) ≡ best shape v s
+  selected-best l = key-back mask (shape .limit) (best shape v s) (omega arith) (bounded (shape .limit))

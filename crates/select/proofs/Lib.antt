@@ -1,3 +1,4 @@
 -- Laws that belong to no one function.
 pub mod Meaning
+pub mod Ready
 pub mod KeyLaws

@@ -1,13 +1,12 @@
 // Selection: which interrupt a vCPU is offered. Each record is visited once, where it stands.
 ghost use mathlib.Core.Path.{_≡_};
-ghost use Prim.Native.Nat.{_<_};
+ghost use Prim.Native.Nat.{_<_, _-_};
 ghost use Rattle.state.specs.declared.layout.InterfaceValue.the-variants.{PriorityMask};
 ghost use Rattle.state.specs.Words.{interfaceAt};
-ghost use Rattle.select.specs.Select.{eligible, best, bothOn, numberOf, highestPending, Looked};
-ghost use Rattle.select.specs.Keys.{selectedBy, keyFor, least, leastKey, KeyRun};
+ghost use Rattle.select.specs.Select.{best, bothOn, numberOf, highestPending, Looked};
+ghost use Rattle.select.specs.Keys.{selectedBy, neededOfSpi, ready, least, withRecord, leastKey, KeyRun};
 use interrupt::GicVcpuId;
 use interrupt::IntId;
-use interrupt::InterruptRecord;
 use interrupt::Priority;
 use state::Entry;
 use state::InterfaceValue;
@@ -15,8 +14,6 @@ use state::Shape;
 use state::layout::record_place;
 use state::words::distributor_enabled;
 use state::words::interface_value;
-use word::decode;
-use word::mask_byte;
 
 // The best candidate, with its priority.
 pub enum Selected {
@@ -24,29 +21,29 @@ pub enum Selected {
     Nothing,
 }
 
-// Above every key.
-const NO_KEY: u32 = 262144;
+// Bits of a record's word, which the loop tests as it stands: several flags by one comparison.
+const ENABLED_AND_PENDING: u32 = 3;
 
-fn is_candidate(record: InterruptRecord, vcpu: GicVcpuId, intid: IntId, mask: Priority) -> bool
+const ACTIVE: u32 = 4;
+
+const MASK_SET: u32 = 128;
+
+const FIRST_TARGET: u32 = 65536;
+
+// What the word of an SPI must have; a private record's needs ENABLED_AND_PENDING alone.
+fn needed_of_spi(vcpu: GicVcpuId) -> u32
     requires { ⌜ vcpu .0 < 8 ⌝ }
-    ensures { λ r. ⌜ r ≡ eligible (mask .0) (vcpu .0) (intid .0) «record» ⌝ }
+    ensures { λ r. ⌜ r ≡ neededOfSpi (vcpu .0) ⌝ }
 {
-    let targets = record.cpu_target_mask;
-    let named = (mask_byte(targets) >> vcpu.0) % 2 == 1;
-    let urgent = record.priority.0 < mask.0;
-    ((intid.0 < 32) | named) & record.enabled & record.pending & !record.active & urgent
+    ENABLED_AND_PENDING + MASK_SET + (FIRST_TARGET << vcpu.0)
 }
 
-// The priority with the number below it: the least key is the smallest priority's, then the smallest number's.
-fn key(record: InterruptRecord, vcpu: GicVcpuId, intid: IntId, mask: Priority) -> u32
-    requires { ⌜ (vcpu .0 < 8) × (intid .0 < 1020) ⌝ }
-    ensures { λ r. ⌜ r ≡ keyFor (mask .0) (vcpu .0) (intid .0) «record» ⌝ }
+fn is_ready(word: u32, needed: u32) -> bool
+    requires { ⌜ needed < 16777216 ⌝ }
+    ensures { λ r. ⌜ r ≡ ready needed word ⌝ }
 {
-    if is_candidate(record, vcpu, intid, mask) {
-        1024 * (record.priority.0 as u32) + intid.0
-    } else {
-        NO_KEY
-    }
+    // All bits that are needed, and not the one of an active record.
+    (word & (needed + ACTIVE)) == needed
 }
 
 fn least(a: u32, b: u32) -> u32
@@ -55,38 +52,38 @@ fn least(a: u32, b: u32) -> u32
     if a < b { a } else { b }
 }
 
-// Of `there` records from the place `base` up, and `start`.
-fn least_key(
-    words: &[u32],
-    base: usize,
-    first: IntId,
-    there: u32,
-    vcpu: GicVcpuId,
-    mask: Priority,
-    start: u32,
-) -> u32
-    requires { ⌜ KeyRun (vcpu .0) (first .0) base there (now words) ⌝ }
-    ensures { λ r. ⌜ r ≡ leastKey (mask .0) (vcpu .0) (first .0) base (now (words .entry)) start there ⌝ }
+// A key is the priority with the number below it: the least is the smallest priority's, then the smallest number's.
+fn with_record(word: u32, intid: IntId, needed: u32, so_far: u32) -> u32
+    requires { ⌜ (needed < 16777216) × (intid .0 < 1020) ⌝ }
+    ensures { λ r. ⌜ r ≡ withRecord needed (intid .0) word «so_far» ⌝ }
 {
-    let mut key_so_far = start;
-    let mut i: u32 = 0;
-    while i < there {
-        let next = key(
-            decode(words[base + i as usize]),
-            vcpu,
-            IntId(first.0 + i),
-            mask,
-        );
-        key_so_far = least(next, key_so_far);
-        i += 1;
+    if is_ready(word, needed) {
+        least(1024 * (word / 256 % 256) + intid.0, so_far)
+    } else {
+        so_far
     }
-    key_so_far
 }
 
-fn of_key(key: u32) -> Selected
-    ensures { λ r. ⌜ r ≡ selectedBy key ⌝ }
+// Of the numbers from `first` to below `end`, and `start`; the record of the number n is at `offset + n`.
+fn least_key(words: &[u32], offset: usize, first: u32, end: u32, needed: u32, start: u32) -> u32
+    requires { ⌜ KeyRun needed offset first end (now words) ⌝ }
+    ensures { λ r. ⌜ r ≡ leastKey needed offset first (now (words .entry)) start (end - first) ⌝ }
 {
-    if key < NO_KEY {
+    let mut key = start;
+    let mut n = first;
+    while n < end {
+        key = with_record(words[offset + n as usize], IntId(n), needed, key);
+        n += 1;
+    }
+    key
+}
+
+// `none` is the start of the run: where no key is below it, there is no candidate.
+fn of_key(key: u32, none: u32) -> Selected
+    requires { ⌜ none < 262144 ⌝ }
+    ensures { λ r. ⌜ r ≡ selectedBy none key ⌝ }
+{
+    if key < none {
         Selected::Best(Entry {
             intid: IntId(key % 1024),
             priority: Priority((key / 1024) as u8),
@@ -109,11 +106,14 @@ pub fn highest_pending(words: &[u32], shape: Shape, vcpu: GicVcpuId) -> Selected
     ensures { λ r. ⌜ r ≡ best shape (vcpu .0) (now (words .entry)) ⌝ }
 {
     let mask = v2_priority_mask(words, shape, vcpu);
+    // A key is below it exactly if its priority is below the mask.
+    let none = 1024 * mask.0 as u32;
     let own = record_place(shape, vcpu, IntId(0));
-    let private = least_key(words, own, IntId(0), 32, vcpu, mask, NO_KEY);
-    let spis = shape.spi_start();
-    let there = shape.limit - 32;
-    of_key(least_key(words, spis, IntId(32), there, vcpu, mask, private))
+    let private = least_key(words, own, 0, 32, ENABLED_AND_PENDING, none);
+    let spis = shape.spi_start() - 32;
+    let needed = needed_of_spi(vcpu);
+    let key = least_key(words, spis, 32, shape.limit, needed, private);
+    of_key(key, none)
 }
 
 pub fn both_enabled(words: &[u32], shape: Shape, vcpu: GicVcpuId) -> bool

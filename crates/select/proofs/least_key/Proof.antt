@@ -1,59 +1,66 @@
 -- `select::least_key` meets its contract. Assumes nothing.
-use Prim.Native.Nat.{_≤_, _-_}
+use mathlib.Core.List.{List}
+use lib.ListN.{getD}
+use Prim.Native.Nat.{ℕ, suc, _+_, _≤_, _-_}
 use mathlib.Core.Path.{_≡_, _∙_}
-use native.Mathlib.Numerals.{add-one}
+use native.Mathlib.Nat.{sub-self}
 use native.Mathlib.Omega.{arith}
-use Rattle.select.specs.Keys.{leastKey}
+use Rattle.select.specs.Keys.{withRecord, leastKey}
 use borrow.Author.Needs.{needs}
 use Rattle.select.proofs.least_key.Statement.{statement}
 use Rattle.select.proofs.least_key.Tie as tie
 
+-- a turn of the loop is a step of the definition
+one-more : (needed offset first n : ℕ) (s : List ℕ) (start : ℕ) → first ≤ n
+    → withRecord needed n (getD s (offset + n) 0) (leastKey needed offset first s start (n - first)) ≡ leastKey needed offset first s start (n + 1 - first)
+unfolding leastKey
+one-more needed offset first n s start h =
+    let next : n + 1 - first ≡ suc (n - first) = omega arith in
+    let back : first + (n - first) ≡ n = omega arith in
+    rw (next, back)
+
 abbrev Inv-loop : tie.InvT-loop
-Inv-loop words base first there vcpu mask start key-so-far₀ i₀ key-so-far i = (i ≤ there) × (key-so-far ≡ leastKey (mask .0) (vcpu .0) (first .0) base words start i)
+Inv-loop words offset first end needed start key₀ n₀ key n = (first ≤ n) × (n ≤ end) × (key ≡ leastKey needed offset first words start (n - first))
 
 abbrev μ-loop : tie.MeasureT-loop
-μ-loop words base first there vcpu mask start key-so-far₀ i₀ key-so-far i = there - i
+μ-loop words offset first end needed start key₀ n₀ key n = end - n
 
 loop-holds : tie.Need-loop-holds Inv-loop μ-loop
 unfolding leastKey
-loop-holds c = search needs
+loop-holds c = (search needs, search needs, rw sub-self)
 
-cast-decode : tie.Need-cast-decode Inv-loop μ-loop
-cast-decode c = search needs
+cast-with-record : tie.Need-cast-with-record Inv-loop μ-loop
+cast-with-record c = search needs
 
-add-decode : tie.Need-add-decode Inv-loop μ-loop
-add-decode c = search needs
+add-with-record : tie.Need-add-with-record Inv-loop μ-loop
+add-with-record c = search needs
 
-mul-decode : tie.Need-mul-decode Inv-loop μ-loop
-mul-decode c = search needs
+mul-with-record : tie.Need-mul-with-record Inv-loop μ-loop
+mul-with-record c = search needs
 
-shared-slice-read-decode : tie.Need-shared-slice-read-decode Inv-loop μ-loop
-shared-slice-read-decode c = search needs
+shared-slice-read-with-record : tie.Need-shared-slice-read-with-record Inv-loop μ-loop
+shared-slice-read-with-record c = search needs
 
-decode-requires : tie.Need-decode-requires Inv-loop μ-loop
-decode-requires c κs = search needs
+with-record-requires : tie.Need-with-record-requires Inv-loop μ-loop
+with-record-requires c κs = search needs
 
-add-t18 : tie.Need-add-t18 Inv-loop μ-loop
-add-t18 c = search needs
-
-key-requires : tie.Need-key-requires Inv-loop μ-loop
-key-requires c κs = search needs
-
-least-requires : tie.Need-least-requires Inv-loop μ-loop
-least-requires c κs = search needs
-
-add-i : tie.Need-add-i Inv-loop μ-loop
-add-i c = search needs
+add-n : tie.Need-add-n Inv-loop μ-loop
+add-n c = search needs
 
 loop-less : tie.Need-loop-less Inv-loop μ-loop
 loop-less c = search needs
 
 loop-again : tie.Need-loop-again Inv-loop μ-loop
-unfolding leastKey
-loop-again c = (search needs, rw add-one (c .least .ensures ∙ simp (c .before .key .ensures, c .before .before .before .decode .ensures, c .before .before .before .before .before .before .loop .inv .1)))
+loop-again c =
+    let a = c .before .before .before .before .before .args in
+    let at-turn = c .before .before .before .loop in (
+      search needs,
+      search needs,
+      c .with-record .ensures ∙ rw (at-turn .inv .2) (one-more (a .needed) (a .offset) (a .first) (at-turn .n) (a .words .now) (a .start) (search needs)),
+    )
 
 returns : tie.Need-returns Inv-loop μ-loop
-returns c = let e : c .before .loop .i ≡ c .before .before .before .args .there = omega arith in rw (← e) (c .before .loop .inv .1)
+returns c = let e : c .before .loop .n ≡ c .before .before .before .args .end = omega arith in rw (← e) (c .before .loop .inv .2)
 
 pub least-key-spec : {M : Type 1} → statement M
 least-key-spec =
@@ -62,15 +69,12 @@ least-key-spec =
     Inv-loop
     μ-loop
     loop-holds
-    cast-decode
-    add-decode
-    mul-decode
-    shared-slice-read-decode
-    decode-requires
-    add-t18
-    key-requires
-    least-requires
-    add-i
+    cast-with-record
+    add-with-record
+    mul-with-record
+    shared-slice-read-with-record
+    with-record-requires
+    add-n
     loop-less
     loop-again
     returns)
