@@ -133,25 +133,24 @@ impl Gic {
     /// The candidate of the smallest priority, and of these the first.
     fn best(&self, vcpu: usize) -> Option<Entry> {
         let own = &self.vcpus[vcpu];
-        let mut best: Option<Entry> = None;
-        let mut consider = |id: usize, record: &Record| {
-            let bound = best.map_or(own.mask, |entry| entry.priority);
-            if record.offered() && record.priority < bound {
-                best = Some(Entry {
-                    id: id as u16,
-                    priority: record.priority,
-                });
-            }
-        };
+        let mut best = None;
+        let mut bound = own.mask;
         for (id, record) in own.records.iter().enumerate() {
-            consider(id, record);
+            if record.offered() && record.priority < bound {
+                bound = record.priority;
+                best = Some(id);
+            }
         }
         for (index, record) in self.spis.iter().enumerate() {
-            if record.targets(vcpu) {
-                consider(32 + index, record);
+            if record.offered() && record.priority < bound && record.targets(vcpu) {
+                bound = record.priority;
+                best = Some(32 + index);
             }
         }
-        best
+        best.map(|id| Entry {
+            id: id as u16,
+            priority: bound,
+        })
     }
 
     pub(crate) fn highest_pending(&self, vcpu: usize) -> Option<Entry> {
