@@ -8,7 +8,7 @@
 /* Calls `function` with six arguments, and tells how many bytes below the stack pointer before the call are no longer paint. */
 uint64_t painted_call(const void *function, const uint64_t arguments[6]);
 
-/* The painted part: more than any call uses. */
+/* The painted part: more than any call uses. The paint is no register's value during the call, for that may be pushed. */
 #define PAINTED "16384"
 
 #if defined(__aarch64__)
@@ -19,7 +19,7 @@ __asm__(".text\n.global painted_call\npainted_call:\n"
         "mov x10, sp\n sub x9, x10, #" PAINTED "\n"
         "1: str x20, [x9], #8\n cmp x9, x10\n b.ne 1b\n"
         "ldp x0, x1, [x8]\n ldp x2, x3, [x8, #16]\n ldp x4, x5, [x8, #32]\n"
-        "blr x19\n"
+        "mvn x20, x20\n blr x19\n mvn x20, x20\n"
         "mov x10, sp\n sub x9, x10, #" PAINTED "\n"
         "2: ldr x11, [x9]\n cmp x11, x20\n b.ne 3f\n add x9, x9, #8\n cmp x9, x10\n b.ne 2b\n"
         "3: sub x0, x10, x9\n"
@@ -31,7 +31,7 @@ __asm__(".text\n.global painted_call\npainted_call:\n"
         "lea -" PAINTED "(%rsp), %r10\n"
         "1: mov %rbx, (%r10)\n add $8, %r10\n cmp %rsp, %r10\n jne 1b\n"
         "mov (%rax), %rdi\n mov 8(%rax), %rsi\n mov 16(%rax), %rdx\n mov 24(%rax), %rcx\n mov 32(%rax), %r8\n mov 40(%rax), %r9\n"
-        "call *%r12\n"
+        "not %rbx\n call *%r12\n not %rbx\n"
         "lea -" PAINTED "(%rsp), %r10\n"
         "2: cmp %rbx, (%r10)\n jne 3f\n add $8, %r10\n cmp %rsp, %r10\n jne 2b\n"
         "3: mov %rsp, %rax\n sub %r10, %rax\n"
