@@ -1,4 +1,5 @@
-//! `bench [ROUNDS]` times the calls of the library, the plain Rust and the oracle: nanoseconds for each call, the median of the rounds.
+//! `bench [ROUNDS]` times the calls of the library, the plain Rust and the oracle: nanoseconds of processor time for each call, the median
+//! of the rounds.
 //! All three make the same calls, and where their answers differ it fails.
 use bench::{
     Controller, Library, Oracle, Plain, Sum,
@@ -34,7 +35,7 @@ fn main() -> ExitCode {
     for shape in SHAPES {
         let Shape { count, limit } = shape;
         println!(
-            "{count} vCPUs, interrupts below {limit}; ns for each call, median of {rounds} rounds (widest distance from it)"
+            "{count} vCPUs, interrupts below {limit}; ns of processor time for each call, median of {rounds} rounds (widest distance from it)"
         );
         println!(
             "{:36} {:>16} {:>16} {:>16} {:>11} {:>13}",

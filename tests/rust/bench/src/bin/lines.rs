@@ -1,13 +1,12 @@
-//! `lines ROUNDS HISTORY PROGRAM...` times programs that answer the runner's lines, each on all of the history: nanoseconds for each line,
-//! the median of the rounds, and the ratio to the last program. Their answers have to be equal.
-use bench::measure::Figure;
+//! `lines ROUNDS HISTORY PROGRAM...` times programs that answer the runner's lines, each on all of the history: nanoseconds of processor time for
+//! each line, the median of the rounds, and the ratio to the last program. Their answers have to be equal.
+use bench::measure::{Figure, Used};
 use std::{
     env,
     error::Error,
     fs::{self, File},
     path::Path,
     process::{Command, ExitCode, Stdio},
-    time::Instant,
 };
 
 type Outcome<T> = Result<T, Box<dyn Error>>;
@@ -44,7 +43,7 @@ fn run(arguments: &[String]) -> Outcome<()> {
     let figures: Vec<Figure> = times.into_iter().map(Figure::of).collect();
     let base = figures.last().ok_or("no program")?.median;
     println!(
-        "{lines} lines of random histories; ns for each line, median of {rounds} rounds (widest distance from it), and the ratio to the last"
+        "{lines} lines of random histories; ns of processor time for each line, median of {rounds} rounds (widest distance from it), and the ratio to the last"
     );
     for (program, figure) in programs.iter().zip(&figures) {
         let name = Path::new(program).file_name().unwrap_or_default();
@@ -70,9 +69,9 @@ fn answers(program: &str, history: &str) -> Outcome<Vec<u8>> {
 fn time(program: &str, history: &str) -> Outcome<f64> {
     let mut command = Command::new(program);
     command.stdin(File::open(history)?).stdout(Stdio::null());
-    let began = Instant::now();
+    let began = Used::by_programs();
     let ended = command.status()?;
-    let took = began.elapsed().as_nanos() as f64;
+    let took = Used::by_programs() - began;
     if ended.success() {
         Ok(took)
     } else {
