@@ -7,7 +7,7 @@ Every path through every function is followed with the stack pointer's distance 
 printed in bytes, the return address that a call pushes (x86-64) included. Fails on what it cannot follow: a call of an address that is
 computed, recursion, a function that is not in the archive, an instruction that sets the stack pointer in a way not known here, two
 paths that meet at different distances. A computed jump has to be a switch, in a function that loads the address of constant data: its
-cases are read from its table where that is plain to see (x86-64), and else what nothing else comes to is taken for them.
+cases are read from its table where that is plain to see, and else what nothing else comes to is taken for them.
 """
 import re
 import subprocess
@@ -67,30 +67,58 @@ def tables(disassembler, archive):
     return found
 
 
+def contents(disassembler, archive):
+    """The bytes of every section of constant data."""
+    listing = subprocess.run([disassembler, "-s", archive], capture_output=True, text=True, check=True).stdout
+    found, section = {}, None
+    for line in listing.splitlines():
+        if m := re.match(r"Contents of section (.+):$", line):
+            section = m[1]
+        elif section and section.startswith(".rodata") and (m := re.match(r" [0-9a-f]+ ((?:[0-9a-f]{2,8} ){1,4})", line)):
+            found[section] = found.get(section, b"") + bytes.fromhex(m[1].replace(" ", ""))
+    return found
+
+
+def table_start(symbol):
+    """A table's section and place, from a relocation's symbol."""
+    m = re.fullmatch(r"(\.rodata\S*?)([-+]0x[0-9a-f]+)?", symbol or "")
+    return (m[1], int(m[2] or "0", 16)) if m else None
+
+
+def table_end(code, section, start):
+    """Where the next table of this function begins, if there is one."""
+    starts = [table_start(it.symbol) for it in code if it.symbol]
+    return min((at for name, at in filter(None, starts) if name == section and at > start), default=None)
+
+
+def last_set(code, index, register):
+    """The place of the last instruction before this one that sets a register, written last (x86-64) or first (Arm)."""
+    shape = rf"(.*,\s*)?{register}" if register.startswith("%") else rf"{register},.*"
+    return max((at for at in range(index) if re.fullmatch(shape, code[at].operands)), default=None)
+
+
 class X86:
     RETURN_ADDRESS = 8
 
     @staticmethod
     def cases(code, index, tables):
         """Where a switch goes, if it stands so: lea table,base; movslq (base,case,4),to; add base,to; jmp *to."""
-        to, before = code[index].operands.lstrip("*"), code[:index]
-        set_to = [it for it in before if re.search(rf",\s*{to}$", it.operands)][-2:]
-        names = [it.name for it in set_to]
-        m = re.match(r"\((%\w+),\s*%\w+,\s*4\),", set_to[0].operands) if set_to else None
-        if names not in (["movslq", "add"], ["movslq", "addq"]) or not m or not set_to[1].operands.startswith(m[1] + ","):
+        to = code[index].operands.lstrip("*")
+        added = last_set(code, index, to)
+        loaded = last_set(code, added, to) if added is not None and code[added].name in ("add", "addq") else None
+        m = re.match(r"\((%\w+),\s*%\w+,\s*4\),", code[loaded].operands) if loaded is not None else None
+        if not m or code[loaded].name != "movslq" or not code[added].operands.startswith(m[1] + ","):
             return None
-        base = [it for it in before if re.search(rf",\s*{m[1]}$", it.operands) and it.address < set_to[0].address]
-        m = re.fullmatch(r"(\.rodata\S*?)([-+]0x[0-9a-f]+)?", base[-1].symbol or "") if base else None
-        if not m or base[-1].name not in ("lea", "leaq"):
+        base = last_set(code, loaded, m[1])
+        found = table_start(code[base].symbol) if base is not None and code[base].name in ("lea", "leaq") else None
+        if not found:
             return None
-        section, start = m[1], int(m[2] or "0", 16) + 4
-        others = [it.symbol for it in code if (it.symbol or "").startswith(section)]
-        starts = [int(re.search(r"([-+]0x[0-9a-f]+)?$", it)[0] or "0", 16) + 4 for it in others]
-        end = min((it for it in starts if it > start), default=1 << 30)
-        rows = {at: row for at, row in tables.get(section, {}).items() if start <= at < end}
-        if not rows or sorted(rows) != list(range(start, start + 4 * len(rows), 4)):
+        # A relocation counts from the instruction's end, 4 bytes on; a row's from the row.
+        (section, start), end = found, table_end(code, *found)
+        rows = {at: row for at, row in tables["rows"].get(section, {}).items() if start + 4 <= at < (end or 1 << 30) + 4}
+        if sorted(rows) != list(range(start + 4, start + 4 + 4 * len(rows), 4)):
             raise Unknown(f"a table with holes for the switch at {code[index].address:#x}")
-        return [(name, distance - (at - start)) for at, (name, distance) in rows.items()]
+        return [(name, distance - (at - start - 4)) for at, (name, distance) in rows.items()]
 
     @staticmethod
     def step(it):
@@ -132,8 +160,24 @@ class Arm:
 
     @staticmethod
     def cases(code, index, tables):
-        """Not read."""
-        return None
+        """Where a switch goes, if it stands so: add table,table,..; adr to,first; ldrb row,[table,case]; add to,to,row,lsl #2; br to."""
+        to = code[index].operands
+        added = last_set(code, index, to)
+        m = re.fullmatch(rf"{to}, {to}, [wx](\d+), lsl #2", code[added].operands) if added is not None else None
+        first = last_set(code, added, to) if m else None
+        loaded = last_set(code, added, "w" + m[1]) if m else None
+        if None in (first, loaded) or code[first].name != "adr" or code[loaded].name not in ("ldrb", "ldrh"):
+            return None
+        base = last_set(code, loaded, re.search(r"\[(x\d+)", code[loaded].operands)[1])
+        found = table_start(code[base].symbol) if base is not None and code[base].name == "add" else None
+        if not found:
+            return None
+        (section, start), end = found, table_end(code, *found)
+        size, data = (1 if code[loaded].name == "ldrb" else 2), tables["bytes"][section]
+        rows = data[start : end if end is not None else len(data)]
+        distances = {int.from_bytes(rows[at : at + size], "little") for at in range(0, len(rows) - size + 1, size)}
+        label = int(re.search(r"(?:0x)?([0-9a-f]+)$", code[first].operands)[1], 16)
+        return [(None, label + 4 * distance) for distance in distances]
     BRANCHES = r"b\.\w+|cbn?z|tbn?z"
 
     @staticmethod
@@ -229,7 +273,8 @@ class Function:
             self.switches.add(depth)
             return
         for section, address in cases:
-            if self.at.get(address) is None or self.code is not self.tables["code"][self.sections[section]]:
+            own = section is None or self.tables["code"][self.sections[section]] is self.code
+            if not own or address not in self.at:
                 raise Unknown(f"a case outside the function, at {address:#x}")
             self.meet(self.at[address], depth)
 
@@ -269,7 +314,8 @@ def main(archive):
     if machine is None:
         raise Unknown("code for a machine not known here")
     found, sections = functions(listing)
-    known, data = {}, {**tables(disassembler, archive), "code": found}
+    data = {"code": found, "rows": tables(disassembler, archive), "bytes": contents(disassembler, archive)}
+    known = {}
     for name, code in found.items():
         try:
             known[name] = Function(code, machine, sections, data)
