@@ -43,7 +43,7 @@ pub fn all<C: Controller>() -> [Workload<C>; 6] {
             take_and_end,
         ),
         workload(
-            "IAR and EOIR, 4 in 10 SPIs ready",
+            "IAR and EOIR, 400 of 988 SPIs ready",
             2,
             many_ready,
             take_and_end,
@@ -80,11 +80,12 @@ fn few_ready<C: Controller>(gic: &mut C, shape: Shape) {
     }
 }
 
-/// The same with 4 in 10 SPIs, of 988 that is 396.
+/// The same with 400 of 988 SPIs, or as many of the others in proportion.
 fn many_ready<C: Controller>(gic: &mut C, shape: Shape) {
     boot(gic, shape);
-    for id in (32..shape.limit).filter(|id| id % 10 < 4) {
-        gic.set_level(0, id, true);
+    let many = shape.spis() * 400 / 988;
+    for index in 0..many {
+        gic.set_level(0, 32 + index * shape.spis() / many, true);
     }
 }
 
