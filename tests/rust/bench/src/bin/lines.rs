@@ -1,5 +1,5 @@
-//! `lines ROUNDS HISTORY PROGRAM...` times programs that answer the runner's lines, each on all of the history: nanoseconds of processor time for
-//! each line, the median of the rounds, and the ratio to the last program. Their answers have to be equal.
+//! `lines ROUNDS HISTORY PROGRAM...` times programs that answer the runner's lines, each on all of the history: nanoseconds of processor time
+//! for each line, the median of the rounds, and the ratio to the last program. Their answers have to be equal.
 use bench::measure::{Figure, Used};
 use std::{
     env,
