@@ -41,7 +41,7 @@
 //! ```
 //!
 //! To link it, `libvgic.a` has to lie where `build.rs` looks: in `target/staticlib` of the repository, or in the folder that
-//! `VGIC_LIB_DIR` names. It is for x86-64.
+//! `VGIC_LIB_DIR` names. The one that `rt staticlib` writes is for x86-64.
 #![deny(missing_docs)]
 #![deny(unsafe_op_in_unsafe_fn)]
 
