@@ -3,9 +3,10 @@
 use mathlib.Core.Path.{_≡_}
 use mathlib.Core.Bool.{cond}
 use mathlib.Core.List.{List}
-use Prim.Native.Nat.{ℕ, _+_, _*_, _≤_, _<_}
+use Prim.Native.Nat.{ℕ, _+_, _*_, _/_, _%_, _^_, _≤_, _<_}
 use lib.ListN.{length, getD, set}
 use Rattle.register.specs.declared.ranges.BitRegister.{BitRegister}
+use Rattle.register.specs.declared.ranges.BitRegister.the-variants.{Igroupr, Isenabler, Icenabler, Ispendr, Icpendr, Isactiver, Icactiver, Icfgr}
 use Rattle.word.specs.Fields.{fieldAt}
 use Rattle.word.specs.Word.{recordOf, wordOf}
 use Rattle.bits.specs.Bits.{fieldBits, perWord, readField, acts, act}
@@ -21,6 +22,30 @@ pub record FieldShift (register : BitRegister) (i r : ℕ) : Type 0 where
   pub at : r ≡ fieldBits register * i
   pub room : r + fieldBits register ≤ 32
   pub below : r < 32
+
+-- a bit register shows one flag of each record: its place in the record's word, and what it counts in the register's field
+abbrev pub flagPlace : BitRegister → ℕ
+flagPlace Igroupr = 0
+flagPlace Isenabler = 0
+flagPlace Icenabler = 0
+flagPlace Ispendr = 1
+flagPlace Icpendr = 1
+flagPlace Isactiver = 2
+flagPlace Icactiver = 2
+flagPlace Icfgr = 6
+
+abbrev pub flagWeight : BitRegister → ℕ
+flagWeight Igroupr = 0
+flagWeight Isenabler = 1
+flagWeight Icenabler = 1
+flagWeight Ispendr = 1
+flagWeight Icpendr = 1
+flagWeight Isactiver = 1
+flagWeight Icactiver = 1
+flagWeight Icfgr = 2
+
+abbrev pub shown : ℕ → ℕ → ℕ → ℕ
+shown place weight w = weight * (w / 2 ^ place % 2)
 
 -- the records of a word stand side by side from the place `base` up: their fields, and what a write does to them
 abbrev pub fieldIn : BitRegister → ℕ → List ℕ → ℕ → ℕ

@@ -6,8 +6,8 @@ ghost use Rattle.interrupt.specs.Record.{setTrigger};
 ghost use Rattle.word.specs.Word.{triggerOf};
 ghost use Rattle.state.specs.Loop.{upTo};
 ghost use Rattle.word.specs.Fields.{fieldAt, gathered};
-ghost use Rattle.bits.specs.Bits.{isConfig, fieldBits, perWord, readField, readBits, acts, clearActive, act, writeBits, WordAt};
-ghost use Rattle.bits.specs.Run.{Existing, FieldShift, RunAt, fieldIn, writeRecord, writeIn};
+ghost use Rattle.bits.specs.Bits.{isConfig, fieldBits, perWord, readBits, acts, clearActive, act, writeBits, WordAt};
+ghost use Rattle.bits.specs.Run.{Existing, FieldShift, RunAt, flagPlace, flagWeight, shown, fieldIn, writeRecord, writeIn};
 use interrupt::GicVcpuId;
 use interrupt::IntId;
 use interrupt::InterruptRecord;
@@ -16,7 +16,6 @@ use interrupt::TriggerMode;
 use register::BitRegister;
 use state::Shape;
 use state::layout::record_place;
-use word::bit;
 use word::decode;
 use word::encode;
 
@@ -68,22 +67,43 @@ fn field_placed(register: BitRegister, field: u32, i: u32) -> u32
     field << field_shift(register, i)
 }
 
-fn read_field(register: BitRegister, record: InterruptRecord) -> u32
-    ensures { λ r. ⌜ r ≡ readField register «record» ⌝ }
+// A bit register shows one flag of each record: where that flag stands in the record's word ..
+fn flag_place(register: BitRegister) -> u32
+    ensures { λ r. ⌜ (r ≡ flagPlace register) × (r < 32) ⌝ }
 {
     match register {
         BitRegister::Igroupr => 0,
-        BitRegister::Isenabler => bit(record.enabled),
-        BitRegister::Icenabler => bit(record.enabled),
-        BitRegister::Ispendr => bit(record.pending),
-        BitRegister::Icpendr => bit(record.pending),
-        BitRegister::Isactiver => bit(record.active),
-        BitRegister::Icactiver => bit(record.active),
-        BitRegister::Icfgr => {
-            let trigger = record.trigger;
-            2 * bit(!trigger.is_level())
-        }
+        BitRegister::Isenabler => 0,
+        BitRegister::Icenabler => 0,
+        BitRegister::Ispendr => 1,
+        BitRegister::Icpendr => 1,
+        BitRegister::Isactiver => 2,
+        BitRegister::Icactiver => 2,
+        BitRegister::Icfgr => 6,
     }
+}
+
+// .. and what it counts in the register's field. The loop over the words has then nothing to decide.
+fn flag_weight(register: BitRegister) -> u32
+    ensures { λ r. ⌜ (r ≡ flagWeight register) × (r < 3) ⌝ }
+{
+    match register {
+        BitRegister::Igroupr => 0,
+        BitRegister::Isenabler => 1,
+        BitRegister::Icenabler => 1,
+        BitRegister::Ispendr => 1,
+        BitRegister::Icpendr => 1,
+        BitRegister::Isactiver => 1,
+        BitRegister::Icactiver => 1,
+        BitRegister::Icfgr => 2,
+    }
+}
+
+fn read_field(place: u32, weight: u32, word: u32) -> u32
+    requires { ⌜ (place < 32) × (weight < 3) ⌝ }
+    ensures { λ r. ⌜ r ≡ shown place weight word ⌝ }
+{
+    weight * ((word >> place) % 2)
 }
 
 // How many of the numbers from `first` up are below the limit.
@@ -100,10 +120,12 @@ fn read_run(words: &[u32], base: usize, register: BitRegister, there: u32) -> u3
     requires { ⌜ RunAt register base there (now words) ⌝ }
     ensures { λ r. ⌜ r ≡ gathered (fieldBits register) (fieldIn register base (now (words .entry))) there ⌝ }
 {
+    let place = flag_place(register);
+    let weight = flag_weight(register);
     let mut value: u32 = 0;
     let mut i: u32 = 0;
     while i < there {
-        let field = read_field(register, decode(words[base + i as usize]));
+        let field = read_field(place, weight, words[base + i as usize]);
         value += field_placed(register, field, i);
         i += 1;
     }

@@ -52,14 +52,14 @@ owner-back (Vcpu v) h =
     simp (ne-eqb (v .0 % 255 + 1) 0 (λ e. omega arith), same)
 
 -- each part of a word, read and written again
-bit-again : (x : ℕ) → x < 2 → bitOf (eqb x 1) ≡ x
+pub bit-again : (x : ℕ) → x < 2 → bitOf (eqb x 1) ≡ x
 bit-again x h = go (eqb x 1) refl
   where
     go : (b : Bool) → eqb x 1 ≡ b → bitOf b ≡ x
     go true e = sym (eqb-true x 1 e)
     go false e = let n : x ≡ 1 → ⊥ = eqb-false x 1 e in omega arith
 
-trigger-again : (b : Bool) → not (isLevel (triggerOf b)) ≡ b
+pub trigger-again : (b : Bool) → not (isLevel (triggerOf b)) ≡ b
 trigger-again true = refl
 trigger-again false = refl
 
