@@ -1,0 +1,2 @@
+-- A script of the runner is a history.
+pub mod Scripts

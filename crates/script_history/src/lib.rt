@@ -1,0 +1,1 @@
+// No code: a script of the runner is a history of calls, so what holds after every history holds after every script.
