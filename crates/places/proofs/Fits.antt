@@ -1,6 +1,6 @@
 -- What the map makes sure of at a place that it gives: a bit register's word is met at 4 bytes, a byte array at no more, and the numbers that
 -- are reached lie in the registers, at a private place below 32. So the registers' own loops may be called. Assumes nothing.
-use mathlib.Core.Path.{_≡_, refl, sym, ap, subst, _∙_}
+use mathlib.Core.Path.{_≡_, refl, sym, subst, _∙_}
 use mathlib.Core.Bool.{Bool, true, false, cond, _&&_, true≢false}
 use mathlib.Core.List.{List}
 use Prim.Native.Nat.{ℕ, _+_, _*_, _≤_, _<_}
@@ -19,9 +19,11 @@ use Rattle.register.specs.declared.ranges.Class.the-variants.{Ctlr, Typer, Iidr
 use Rattle.register.specs.declared.distributor.Place.{Place}
 use Rattle.register.specs.declared.distributor.DistributorAccess.{DistributorAccess}
 use Rattle.register.specs.declared.distributor.DistributorAccess.the-variants.{Refused, PrivateWidth, At}
-use Rattle.register.specs.Distributor.{bitNumbersPerByte, isPriority, isBanked, isPrivate, placeAt, wordStart, unfit, single, bitWord, byteArray, within, locateInFrame, locateDistributor}
-use Rattle.register.specs.Frame.{refusalNumber, bytes, isDword, isQword, inFrame}
+use Rattle.register.specs.Distributor.{bitNumbersPerByte, isPriority, isBanked, isPrivate, placeAt, plain, locateDistributor}
+use Rattle.register.specs.Frame.{refusalNumber, bytes, isDword, isQword}
 use Rattle.register.specs.Ranges.{ranges, classAt, rangeNumbered, rangeOf}
+use Rattle.register.proofs.Access.{some-bytes}
+use Rattle.register.proofs.Ways.{isSingle, each-access}
 use Rattle.register.proofs.Reach.{reach, numbers, reach-bound}
 use Rattle.state.specs.declared.layout.Shape.{Shape}
 use Rattle.state.specs.Layout.{Room}
@@ -47,46 +49,26 @@ Fitted w (Refused r) = refusalNumber r ≤ 2
 Fitted w PrivateWidth = Unit
 Fitted w (At p) = Placement w p
 
-record Fitting (w : AccessWidth) (access : DistributorAccess) : Type 0 where
-  fitted : Fitted w access
-
-chosen : {w : AccessWidth} {x y : DistributorAccess} (b : Bool) → (b ≡ true → Fitting w x) → (b ≡ false → Fitting w y) → Fitting w (cond b x y)
-chosen true p q = p refl
-chosen false p q = q refl
-
-unfitted : (p : Place) (w : AccessWidth) → Fitting w (unfit p)
-unfolding unfit
-unfitted p w = chosen (p .private) (λ e. record { fitted = tt }) (λ e. record { fitted = omega arith })
-
 placed : (o : ℕ) (w : AccessWidth) (c : Class) → classAt o ≡ c → WidthFits c w → Placement w (placeAt o)
 unfolding placeAt isPrivate
 placed o w c e f = record { private-is = refl; width-fits = subst (λ (k : Class). WidthFits k w) (sym e) f }
 
-alone : (c : Class) (o : ℕ) (w : AccessWidth) → isBanked c ≡ false → WidthFits c w → Fitting w (single c o w)
-unfolding single
-alone c o w e f =
-    chosen (wordStart o)
-    (λ s. chosen (isDword w) (λ d. record { fitted = record { private-is = ap (λ (b : Bool). b && true) (sym e); width-fits = f } }) (λ d. record { fitted = omega arith }))
-    (λ s. record { fitted = record { private-is = refl; width-fits = tt } })
+alone : (w : AccessWidth) (c : Class) → isSingle c ≡ true → Placement w (plain c)
+alone w Ctlr e = record { private-is = refl; width-fits = tt }
+alone w Typer e = record { private-is = refl; width-fits = tt }
+alone w Iidr e = record { private-is = refl; width-fits = tt }
+alone w Sgir e = record { private-is = refl; width-fits = tt }
+alone w (Bits register) e = absurd (true≢false (sym e))
+alone w (Bytes register) e = absurd (true≢false (sym e))
+alone w Other e = record { private-is = refl; width-fits = tt }
 
-by-class : (o : ℕ) (w : AccessWidth) (c : Class) → classAt o ≡ c → Fitting w (within c o w)
-unfolding bitWord byteArray
-by-class o w Ctlr e = alone Ctlr o w refl tt
-by-class o w Typer e = alone Typer o w refl tt
-by-class o w Iidr e = alone Iidr o w refl tt
-by-class o w Sgir e = alone Sgir o w refl tt
-by-class o w (Bits register) e =
-    chosen (wordStart o) (λ s. chosen (isDword w) (λ d. record { fitted = placed o w (Bits register) e d }) (λ d. unfitted (placeAt o) w)) (λ s. record { fitted = omega arith })
-by-class o w (Bytes register) e = chosen (isQword w) (λ q. unfitted (placeAt o) w) (λ q. record { fitted = placed o w (Bytes register) e q })
-by-class o w Other e = record { fitted = record { private-is = refl; width-fits = tt } }
-
-fitting : (o : ℕ) (w : AccessWidth) → Fitting w (locateDistributor o w)
-unfolding locateDistributor locateInFrame
-fitting o w = chosen (inFrame 0x1000 o w) (λ e. by-class o w (classAt o) refl) (λ e. record { fitted = omega arith })
+fitting : (o : ℕ) (w : AccessWidth) → Fitted w (locateDistributor o w)
+fitting o w =
+    each-access o w (Fitted w) (λ r k. k) tt (alone w) (λ register e a d. placed o w (Bits register) e d) (λ register e a q. placed o w (Bytes register) e q)
 
 -- what the map refuses it refuses by 1 or 2
 pub refused-access : (o : ℕ) (w : AccessWidth) (r : Refusal) → locateDistributor o w ≡ Refused r → refusalNumber r ≤ 2
-refused-access o w r p = subst (Fitting w) p (fitting o w) .fitted
+refused-access o w r p = subst (Fitted w) p (fitting o w)
 
 dword-bytes : (w : AccessWidth) → isDword w ≡ true → bytes w ≡ 4
 dword-bytes Byte d = absurd (true≢false (sym d))
@@ -105,12 +87,6 @@ bytes-few Byte = omega arith
 bytes-few Word = omega arith
 bytes-few Dword = omega arith
 bytes-few Qword = omega arith
-
-some-bytes : (w : AccessWidth) → 0 < bytes w
-some-bytes Byte = omega arith
-some-bytes Word = omega arith
-some-bytes Dword = omega arith
-some-bytes Qword = omega arith
 
 per-word : (register : BitRegister) → perWord register ≡ bitNumbersPerByte register * 4
 per-word Igroupr = refl
@@ -141,7 +117,7 @@ module _ (shape : Shape) (v : ℕ) (p : Place) (w : AccessWidth) (s : List ℕ) 
   first = p .first .0
 
   placement : Placement w p
-  placement = subst (Fitting w) (located .at) (fitting (located .offset) w) .fitted
+  placement = subst (Fitted w) (located .at) (fitting (located .offset) w)
 
   bound : reach p w ≤ numbers p
   bound = reach-bound (located .offset) w p (located .at)

@@ -9,7 +9,7 @@ use Rattle.register.specs.declared.frame.AccessWidth.the-variants.{Byte,
 use Rattle.register.specs.Frame.{bytes, aligned, inFrame}
 use Rattle.register.proofs.Tests.{both-left, both-right, is-true}
 
-some-bytes : (width : AccessWidth) → 1 ≤ bytes width
+pub some-bytes : (width : AccessWidth) → 1 ≤ bytes width
 some-bytes Byte = omega arith
 some-bytes Word = omega arith
 some-bytes Dword = omega arith

@@ -5,3 +5,4 @@ pub mod Map
 pub mod Reach
 pub mod Table
 pub mod Tests
+pub mod Ways

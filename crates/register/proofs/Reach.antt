@@ -17,10 +17,10 @@ use Rattle.register.specs.declared.ranges.RegisterRange.{RegisterRange}
 use Rattle.register.specs.declared.distributor.Place.{Place}
 use Rattle.register.specs.declared.distributor.DistributorAccess.{DistributorAccess}
 use Rattle.register.specs.declared.distributor.DistributorAccess.the-variants.{Refused, PrivateWidth, At}
-use Rattle.register.specs.Distributor.{numbersPerByte, isBanked, firstNumber, isPrivate, placeAt, wordStart, unfit, single, bitWord, byteArray, within, locateInFrame, locateDistributor}
-use Rattle.register.specs.Frame.{bytes, isDword, isQword, aligned, inFrame}
+use Rattle.register.specs.Distributor.{numbersPerByte, isBanked, firstNumber, isPrivate, placeAt, plain, single, locateDistributor}
+use Rattle.register.specs.Frame.{bytes, isDword, isQword, aligned}
 use Rattle.register.specs.Ranges.{nowhere, rangeAt, classAt, rangeOf}
-use Rattle.register.proofs.Access.{in-frame-aligned}
+use Rattle.register.proofs.Ways.{isSingle, each-access}
 use Rattle.register.proofs.Map.{range-of-class, Whole, range-whole}
 
 -- one past the last number that an access at a place reaches
@@ -35,9 +35,6 @@ abbrev Bound : AccessWidth → DistributorAccess → Type 0
 Bound width (Refused r) = Unit
 Bound width PrivateWidth = Unit
 Bound width (At p) = reach p width ≤ numbers p
-
-record Bounded (width : AccessWidth) (access : DistributorAccess) : Type 0 where
-  bound : Bound width access
 
 -- an aligned access of at most 4 bytes that starts in some whole words ends in them
 ends : (width : AccessWidth) (first length offset : ℕ) → isQword width ≡ false → aligned offset width ≡ true → first % 4 ≡ 0 → length % 4 ≡ 0 → offset < first + length → offset + bytes width ≤ first + length
@@ -114,47 +111,17 @@ not-qword Word e = refl
 not-qword Dword e = refl
 not-qword Qword e = absurd (true≢false (sym e))
 
-chosen : {w : AccessWidth} {x y : DistributorAccess} (b : Bool) → (b ≡ true → Bounded w x) → (b ≡ false → Bounded w y) → Bounded w (cond b x y)
-chosen true p q = p refl
-chosen false p q = q refl
-
-unfitted : (p : Place) (w : AccessWidth) → Bounded w (unfit p)
-unfolding unfit
-unfitted p w = chosen (p .private) (λ e. record { bound = tt }) (λ e. record { bound = tt })
-
-in-word : (o : ℕ) (w : AccessWidth) → aligned o w ≡ true → Bounded w (bitWord (placeAt o) o w)
-unfolding bitWord
-in-word o w a =
-    chosen (wordStart o) (λ s. chosen (isDword w) (λ d. record { bound = placed o w (not-qword w d) a }) (λ d. unfitted (placeAt o) w)) (λ s. record { bound = tt })
-
-in-bytes : (o : ℕ) (w : AccessWidth) → aligned o w ≡ true → Bounded w (byteArray (placeAt o) w)
-unfolding byteArray
-in-bytes o w a = chosen (isQword w) (λ q. unfitted (placeAt o) w) (λ q. record { bound = placed o w q a })
-
 -- a single register has no numbers
-alone : (c : Class) (o : ℕ) (w : AccessWidth) → numbersPerByte c ≡ 0 → Bounded w (single c o w)
-unfolding single
-alone c o w e =
-    chosen (wordStart o)
-    (λ s. chosen (isDword w) (λ d. record { bound = subst No-numbers (sym e) (omega arith) }) (λ d. record { bound = tt }))
-    (λ s. record { bound = omega arith })
-  where
-    No-numbers : ℕ → Type 0
-    No-numbers n = 0 + n * bytes w ≤ rangeOf c .length * n
-
-by-class : (o : ℕ) (w : AccessWidth) → aligned o w ≡ true → (c : Class) → Bounded w (within c o w)
-by-class o w a Ctlr = alone Ctlr o w refl
-by-class o w a Typer = alone Typer o w refl
-by-class o w a Iidr = alone Iidr o w refl
-by-class o w a Sgir = alone Sgir o w refl
-by-class o w a (Bits register) = in-word o w a
-by-class o w a (Bytes register) = in-bytes o w a
-by-class o w a Other = record { bound = omega arith }
-
-bounded : (o : ℕ) (w : AccessWidth) → Bounded w (locateDistributor o w)
-unfolding locateDistributor locateInFrame
-bounded o w =
-    chosen (inFrame 0x1000 o w) (λ e. by-class o w (in-frame-aligned 0x1000 o w e) (classAt o)) (λ e. record { bound = tt })
+no-numbers : (c : Class) (w : AccessWidth) → isSingle c ≡ true → Bound w (At (plain c))
+no-numbers Ctlr w e = omega arith
+no-numbers Typer w e = omega arith
+no-numbers Iidr w e = omega arith
+no-numbers Sgir w e = omega arith
+no-numbers (Bits register) w e = absurd (true≢false (sym e))
+no-numbers (Bytes register) w e = absurd (true≢false (sym e))
+no-numbers Other w e = omega arith
 
 pub reach-bound : (o : ℕ) (w : AccessWidth) (p : Place) → locateDistributor o w ≡ At p → reach p w ≤ numbers p
-reach-bound o w p e = subst (Bounded w) e (bounded o w) .bound
+reach-bound o w p e =
+    subst (Bound w) e
+    (each-access o w (Bound w) (λ r k. tt) tt (λ c s. no-numbers c w s) (λ register is a d. placed o w (not-qword w d) a) (λ register is a q. placed o w q a))
