@@ -17,7 +17,7 @@ use Rattle.answer.specs.Answer.{Outcome, outcome}
 use Rattle.controller.specs.Start.{setup}
 use Rattle.distributor_frame.specs.DistributorFrame.{readV2Distributor, writeV2Distributor}
 use Rattle.cpu_interface_frame.specs.CpuInterfaceFrame.{readV2CpuInterface, writeV2CpuInterface}
-use Rattle.input.specs.Input.{setLevel, pulse}
+use Rattle.input.specs.Input.{deviceLevel, devicePulse}
 
 -- a refusal is known by its number, and no number is 0
 numbered : (r q : Refusal) → refusalNumber r ≡ refusalNumber q → r ≡ q
@@ -94,8 +94,8 @@ read-v2-cpu-interface-one v offset width s = one (readV2CpuInterface v offset wi
 pub write-v2-cpu-interface-one : (v offset : ℕ) (width : AccessWidth) (value : ℕ) (s : List ℕ) → One (writeV2CpuInterface v offset width value s)
 write-v2-cpu-interface-one v offset width value s = one (writeV2CpuInterface v offset width value s)
 
-pub set-level-one : (v n : ℕ) (asserted : Bool) (s : List ℕ) → One (setLevel v n asserted s)
-set-level-one v n asserted s = one (setLevel v n asserted s)
+pub set-level-one : (v n : ℕ) (asserted : Bool) (s : List ℕ) → One (deviceLevel v n asserted s)
+set-level-one v n asserted s = one (deviceLevel v n asserted s)
 
-pub pulse-one : (v n : ℕ) (s : List ℕ) → One (pulse v n s)
-pulse-one v n s = one (pulse v n s)
+pub pulse-one : (v n : ℕ) (s : List ℕ) → One (devicePulse v n s)
+pulse-one v n s = one (devicePulse v n s)

@@ -16,12 +16,12 @@ pub record Row : Type 0 where
   pub wake : ℕ
   pub retired : ℕ
 
-abbrev pub gives : Row → Outcome → Bool
-gives r o = eqb (r .refusal) (o .refusal) && eqb (r .value) (o .value) && eqb (r .wake) (o .wake) && eqb (r .retired) (o .retired)
+abbrev pub rowMatches : Row → Outcome → Bool
+rowMatches r o = eqb (r .refusal) (o .refusal) && eqb (r .value) (o .value) && eqb (r .wake) (o .wake) && eqb (r .retired) (o .retired)
 
 unfoldable pub right : List Row → List ℕ → Bool
 right [] s = true
-right (r ∷ rs) s = let o : Outcome = called (r .call) s in gives r o && right rs (o .state)
+right (r ∷ rs) s = let o : Outcome = called (r .call) s in rowMatches r o && right rs (o .state)
 
 unfoldable pub zeros : ℕ → List ℕ
 zeros zero = []
@@ -36,15 +36,15 @@ pub record Case : Type 0 where
 abbrev pub row : Call → ℕ → ℕ → ℕ → ℕ → Row
 row call refusal value wake retired = record { call = call; refusal = refusal; value = value; wake = wake; retired = retired }
 
-abbrev pub setup : Case → Row
-setup c = row (Setup (c .count) (c .limit)) 0 0 0 1023
+abbrev pub setupRow : Case → Row
+setupRow c = row (Setup (c .count) (c .limit)) 0 0 0 1023
 
 -- each in as many words as any state takes
-abbrev pub lent : List ℕ
-lent = zeros 3447
+abbrev pub lentWords : List ℕ
+lentWords = zeros 3447
 
 abbrev pub caseRight : Case → Bool
-caseRight c = right (setup c ∷ c .rows) lent
+caseRight c = right (setupRow c ∷ c .rows) lentWords
 
 unfoldable pub allRight : List Case → Bool
 allRight [] = true

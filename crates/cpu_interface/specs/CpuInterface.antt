@@ -111,49 +111,49 @@ writeRetired shape v Other value s = 1023
 
 -- "The vCPU is not looked up for: .. CPU interface IIDR, APR and unnamed places; .. reads of EOIR and DIR, ..; reads of IAR while the
 -- Distributor is off (aliases alike)"
-abbrev pub readLooksUp : CpuInterfaceRegister → Bool → Bool
-readLooksUp Ctlr on = true
-readLooksUp Pmr on = true
-readLooksUp Bpr on = true
-readLooksUp Iar on = on
-readLooksUp Eoir on = false
-readLooksUp Rpr on = true
-readLooksUp Hppir on = true
-readLooksUp Abpr on = true
-readLooksUp Aiar on = on
-readLooksUp Aeoir on = false
-readLooksUp Ahppir on = true
-readLooksUp Apr on = false
-readLooksUp Iidr on = false
-readLooksUp Dir on = false
-readLooksUp Other on = false
+abbrev pub readRegisterLooksUp : CpuInterfaceRegister → Bool → Bool
+readRegisterLooksUp Ctlr on = true
+readRegisterLooksUp Pmr on = true
+readRegisterLooksUp Bpr on = true
+readRegisterLooksUp Iar on = on
+readRegisterLooksUp Eoir on = false
+readRegisterLooksUp Rpr on = true
+readRegisterLooksUp Hppir on = true
+readRegisterLooksUp Abpr on = true
+readRegisterLooksUp Aiar on = on
+readRegisterLooksUp Aeoir on = false
+readRegisterLooksUp Ahppir on = true
+readRegisterLooksUp Apr on = false
+readRegisterLooksUp Iidr on = false
+readRegisterLooksUp Dir on = false
+readRegisterLooksUp Other on = false
 
 -- ".. writes to IAR, RPR and HPPIR; [writes to EOIR and DIR] with an undecodable number"
 abbrev pub decodes : ℕ → Bool
 decodes value = ltb (value % 1024) 1020
 
-abbrev pub writeLooksUp : CpuInterfaceRegister → ℕ → Bool
-writeLooksUp Ctlr value = true
-writeLooksUp Pmr value = true
-writeLooksUp Bpr value = true
-writeLooksUp Iar value = false
-writeLooksUp Eoir value = decodes value
-writeLooksUp Rpr value = false
-writeLooksUp Hppir value = false
-writeLooksUp Abpr value = true
-writeLooksUp Aiar value = false
-writeLooksUp Aeoir value = decodes value
-writeLooksUp Ahppir value = false
-writeLooksUp Apr value = false
-writeLooksUp Iidr value = false
-writeLooksUp Dir value = decodes value
-writeLooksUp Other value = false
+abbrev pub writeRegisterLooksUp : CpuInterfaceRegister → ℕ → Bool
+writeRegisterLooksUp Ctlr value = true
+writeRegisterLooksUp Pmr value = true
+writeRegisterLooksUp Bpr value = true
+writeRegisterLooksUp Iar value = false
+writeRegisterLooksUp Eoir value = decodes value
+writeRegisterLooksUp Rpr value = false
+writeRegisterLooksUp Hppir value = false
+writeRegisterLooksUp Abpr value = true
+writeRegisterLooksUp Aiar value = false
+writeRegisterLooksUp Aeoir value = decodes value
+writeRegisterLooksUp Ahppir value = false
+writeRegisterLooksUp Apr value = false
+writeRegisterLooksUp Iidr value = false
+writeRegisterLooksUp Dir value = decodes value
+writeRegisterLooksUp Other value = false
 
 -- words that hold a state, with the vCPU where it is looked up
 pub record Reading (shape : Shape) (v : ℕ) (register : CpuInterfaceRegister) (s : List ℕ) : Type 0 where
   pub state : Room shape s
-  pub served : readLooksUp register (enabledAt shape s) ≡ true → Served shape v s
+  pub served : readRegisterLooksUp register (enabledAt shape s) ≡ true → Served shape v s
 
 pub record Writing (shape : Shape) (v : ℕ) (register : CpuInterfaceRegister) (value : ℕ) (s : List ℕ) : Type 0 where
   pub state : Room shape s
-  pub served : writeLooksUp register value ≡ true → Served shape v s
+  pub served : writeRegisterLooksUp register value ≡ true → Served shape v s

@@ -1,6 +1,6 @@
 // The registers of a CPU interface: what each reads, and what a write to it does. Mirrors the two tables at the top of v2.rs.
 ghost use mathlib.Core.Path.{_≡_};
-ghost use Rattle.cpu_interface.specs.CpuInterface.{readRegister, afterRead, writeRegister, writeRetired, readLooksUp, writeLooksUp, decodes, Reading, Writing};
+ghost use Rattle.cpu_interface.specs.CpuInterface.{readRegister, afterRead, writeRegister, writeRetired, readRegisterLooksUp, writeRegisterLooksUp, decodes, Reading, Writing};
 use acknowledge::Read;
 use acknowledge::acknowledge_v2;
 use distributor::values::iidr;
@@ -18,7 +18,7 @@ use state::words::put_interface_value;
 
 // Whether a read looks up its vCPU; `enabled` is the Distributor's.
 pub fn read_looks_up(register: CpuInterfaceRegister, enabled: bool) -> bool
-    ensures { λ r. ⌜ r ≡ readLooksUp register enabled ⌝ }
+    ensures { λ r. ⌜ r ≡ readRegisterLooksUp register enabled ⌝ }
 {
     match register {
         CpuInterfaceRegister::Ctlr => true,
@@ -46,7 +46,7 @@ fn decodes(value: u32) -> bool
 }
 
 pub fn write_looks_up(register: CpuInterfaceRegister, value: u32) -> bool
-    ensures { λ r. ⌜ r ≡ writeLooksUp register value ⌝ }
+    ensures { λ r. ⌜ r ≡ writeRegisterLooksUp register value ⌝ }
 {
     match register {
         CpuInterfaceRegister::Ctlr => true,

@@ -13,7 +13,7 @@ use Rattle.state.specs.Lent.{validated}
 use Rattle.state.specs.Words.{enabledAt}
 use Rattle.acknowledge.specs.declared.Read.{Read}
 use Rattle.acknowledge.specs.declared.Read.the-variants.{Value, StackFull}
-use Rattle.cpu_interface.specs.CpuInterface.{readRegister, afterRead, writeRegister, writeRetired, readLooksUp, writeLooksUp}
+use Rattle.cpu_interface.specs.CpuInterface.{readRegister, afterRead, writeRegister, writeRetired, readRegisterLooksUp, writeRegisterLooksUp}
 use Rattle.answer.specs.Answer.{Outcome, refused, gave, went, onState, lookedUp}
 
 -- what was read in the state s, which is r afterwards
@@ -21,24 +21,24 @@ abbrev pub readAnswer : Read → List ℕ → List ℕ → Outcome
 readAnswer (Value x) s r = gave x r
 readAnswer StackFull s r = refused FullStack s
 
-abbrev pub readAt : Shape → ℕ → CpuInterfaceRegister → List ℕ → Outcome
-readAt shape v register s =
-    lookedUp (readLooksUp register (enabledAt shape s)) shape v s (readAnswer (readRegister shape v register s) s (afterRead shape v register s))
+abbrev pub readInterfaceAt : Shape → ℕ → CpuInterfaceRegister → List ℕ → Outcome
+readInterfaceAt shape v register s =
+    lookedUp (readRegisterLooksUp register (enabledAt shape s)) shape v s (readAnswer (readRegister shape v register s) s (afterRead shape v register s))
 
-abbrev pub writeAt : Shape → ℕ → CpuInterfaceRegister → ℕ → List ℕ → Outcome
-writeAt shape v register value s =
-    lookedUp (writeLooksUp register value) shape v s (went shape (writeRetired shape v register value s) s (writeRegister shape v register value s))
+abbrev pub writeInterfaceAt : Shape → ℕ → CpuInterfaceRegister → ℕ → List ℕ → Outcome
+writeInterfaceAt shape v register value s =
+    lookedUp (writeRegisterLooksUp register value) shape v s (went shape (writeRetired shape v register value s) s (writeRegister shape v register value s))
 
-abbrev pub readAccess : Shape → ℕ → CpuInterfaceAccess → List ℕ → Outcome
-readAccess shape v (Refused r) s = refused r s
-readAccess shape v (At register) s = readAt shape v register s
+abbrev pub readInterfaceAccess : Shape → ℕ → CpuInterfaceAccess → List ℕ → Outcome
+readInterfaceAccess shape v (Refused r) s = refused r s
+readInterfaceAccess shape v (At register) s = readInterfaceAt shape v register s
 
-abbrev pub writeAccess : Shape → ℕ → CpuInterfaceAccess → ℕ → List ℕ → Outcome
-writeAccess shape v (Refused r) value s = refused r s
-writeAccess shape v (At register) value s = writeAt shape v register value s
+abbrev pub writeInterfaceAccess : Shape → ℕ → CpuInterfaceAccess → ℕ → List ℕ → Outcome
+writeInterfaceAccess shape v (Refused r) value s = refused r s
+writeInterfaceAccess shape v (At register) value s = writeInterfaceAt shape v register value s
 
 unfoldable pub readV2CpuInterface : ℕ → ℕ → AccessWidth → List ℕ → Outcome
-readV2CpuInterface v offset width s = onState (validated s) s (λ shape. readAccess shape v (locateCpuInterface offset width) s)
+readV2CpuInterface v offset width s = onState (validated s) s (λ shape. readInterfaceAccess shape v (locateCpuInterface offset width) s)
 
 unfoldable pub writeV2CpuInterface : ℕ → ℕ → AccessWidth → ℕ → List ℕ → Outcome
-writeV2CpuInterface v offset width value s = onState (validated s) s (λ shape. writeAccess shape v (locateCpuInterface offset width) (value % 2 ^ 32) s)
+writeV2CpuInterface v offset width value s = onState (validated s) s (λ shape. writeInterfaceAccess shape v (locateCpuInterface offset width) (value % 2 ^ 32) s)

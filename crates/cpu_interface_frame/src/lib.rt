@@ -2,7 +2,7 @@
 ghost use mathlib.Core.Path.{_≡_};
 ghost use Rattle.service.specs.Service.{Sound};
 ghost use Rattle.answer.specs.Answer.{outcome};
-ghost use Rattle.cpu_interface_frame.specs.CpuInterfaceFrame.{readAt, writeAt, readV2CpuInterface, writeV2CpuInterface};
+ghost use Rattle.cpu_interface_frame.specs.CpuInterfaceFrame.{readInterfaceAt, writeInterfaceAt, readV2CpuInterface, writeV2CpuInterface};
 use acknowledge::Read;
 use answer::Answer;
 use answer::absent;
@@ -31,7 +31,7 @@ fn read_at(
     register: CpuInterfaceRegister,
 ) -> Answer
     requires { ⌜ Sound shape (now words) ⌝ }
-    ensures { λ r. ⌜ outcome r (now (words .exit)) ≡ readAt shape (vcpu .0) register (now (words .entry)) ⌝ }
+    ensures { λ r. ⌜ outcome r (now (words .exit)) ≡ readInterfaceAt shape (vcpu .0) register (now (words .entry)) ⌝ }
 {
     let enabled = distributor_enabled(words, shape);
     if absent(shape, vcpu, read_looks_up(register, enabled)) {
@@ -68,7 +68,7 @@ fn write_at(
     value: u32,
 ) -> Answer
     requires { ⌜ Sound shape (now words) ⌝ }
-    ensures { λ r. ⌜ outcome r (now (words .exit)) ≡ writeAt shape (vcpu .0) register value (now (words .entry)) ⌝ }
+    ensures { λ r. ⌜ outcome r (now (words .exit)) ≡ writeInterfaceAt shape (vcpu .0) register value (now (words .entry)) ⌝ }
 {
     if absent(shape, vcpu, write_looks_up(register, value)) {
         return Answer::Refused(Refusal::Vcpu);

@@ -30,7 +30,7 @@ use Rattle.service.proofs.Stacks.{pushed-room, popped-served}
 use Rattle.acknowledge.specs.Acknowledge.{sourceOf, pendIfLeft, withoutSource, sourceTaken, givenRecord, given, acknowledged, Givable}
 use Rattle.acknowledge.proofs.Offers.{offer-is}
 use Rattle.end.specs.End.{deactivated, ended}
-use Rattle.cpu_interface.specs.CpuInterface.{afterRead, writeRegister, readLooksUp, writeLooksUp}
+use Rattle.cpu_interface.specs.CpuInterface.{afterRead, writeRegister, readRegisterLooksUp, writeRegisterLooksUp}
 use Rattle.delivery.proofs.Answers.{acknowledged-cases}
 use Rattle.delivery.proofs.Deactivation.{deactivated-cases}
 use Rattle.delivery.proofs.Ended.{ended-keeps}
@@ -123,10 +123,10 @@ module _ (shape : Shape) (v : ℕ) (s : List ℕ) (h : Served shape v s) (c : Ca
 
 -- every read and write, by a vCPU that exists where it is looked up
 module _ (shape : Shape) (v : ℕ) (s : List ℕ) (h : Sound shape s) (c : Canonical shape s) where
-  pub read-canonical : (register : CpuInterfaceRegister) → (readLooksUp register (enabledAt shape s) ≡ true → v < shape .count) → Canonical shape (afterRead shape v register s)
+  pub read-canonical : (register : CpuInterfaceRegister) → (readRegisterLooksUp register (enabledAt shape s) ≡ true → v < shape .count) → Canonical shape (afterRead shape v register s)
   read-canonical = read-cases shape v s (Canonical shape) c (λ x. acknowledged-canonical shape v s (sound-served v h x) c)
 
-  pub write-canonical : (register : CpuInterfaceRegister) (value : ℕ) → (writeLooksUp register value ≡ true → v < shape .count) → Canonical shape (writeRegister shape v register value s)
+  pub write-canonical : (register : CpuInterfaceRegister) (value : ℕ) → (writeRegisterLooksUp register value ≡ true → v < shape .count) → Canonical shape (writeRegister shape v register value s)
   write-canonical register value =
       write-cases shape v s (Canonical shape) c value
       (λ x k off. interface-canonical shape s (h .state) c v k value x off)

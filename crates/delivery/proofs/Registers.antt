@@ -21,7 +21,7 @@ use Rattle.acknowledge.specs.declared.Read.{Read}
 use Rattle.acknowledge.specs.declared.Read.the-variants.{Value}
 use Rattle.acknowledge.specs.Acknowledge.{offer, taken, acknowledge, acknowledged}
 use Rattle.end.specs.End.{decodedEoi, deactivated, retired, ended, endRetired, eoiState, eoiRetired, dirState, dirRetired}
-use Rattle.cpu_interface.specs.CpuInterface.{readRegister, acknowledging, afterRead, writeRegister, writeRetired, readLooksUp, writeLooksUp, decodes}
+use Rattle.cpu_interface.specs.CpuInterface.{readRegister, acknowledging, afterRead, writeRegister, writeRetired, readRegisterLooksUp, writeRegisterLooksUp, decodes}
 use Rattle.cpu_interface.proofs.Decoding.{valid-decodes}
 
 -- a read acknowledges, or gives a value and changes nothing; P is of the register, of whether its vCPU is looked up, of the answer and of the
@@ -29,7 +29,7 @@ use Rattle.cpu_interface.proofs.Decoding.{valid-decodes}
 module _ (shape : Shape) (v : ℕ) (s : List ℕ) (P : CpuInterfaceRegister → Bool → Read → List ℕ → Type 0)
     (gives : (register : CpuInterfaceRegister) → acknowledging register ≡ false → (looksUp : Bool) (x : ℕ) → P register looksUp (Value x) s)
     (acknowledges : (register : CpuInterfaceRegister) → acknowledging register ≡ true → P register (enabledAt shape s) (acknowledge shape v s) (acknowledged shape v s)) where
-  pub each-read : (register : CpuInterfaceRegister) → P register (readLooksUp register (enabledAt shape s)) (readRegister shape v register s) (afterRead shape v register s)
+  pub each-read : (register : CpuInterfaceRegister) → P register (readRegisterLooksUp register (enabledAt shape s)) (readRegister shape v register s) (afterRead shape v register s)
   each-read Ctlr = gives Ctlr refl true (interfaceAt shape v Control s)
   each-read Pmr = gives Pmr refl true (interfaceAt shape v PriorityMask s)
   each-read Bpr = gives Bpr refl true (interfaceAt shape v BinaryPoint s)
@@ -61,7 +61,7 @@ module _ (shape : Shape) (v : ℕ) (s : List ℕ) (value : ℕ) (P : Bool → �
   dir-case Reserved p = nothing (decodes value)
   dir-case (Valid n) p = rw (valid-decodes value n p) (deactivates (n .0))
 
-  pub each-write : (register : CpuInterfaceRegister) → P (writeLooksUp register value) (writeRetired shape v register value s) (writeRegister shape v register value s)
+  pub each-write : (register : CpuInterfaceRegister) → P (writeRegisterLooksUp register value) (writeRetired shape v register value s) (writeRegister shape v register value s)
   each-write Ctlr = keeps Control tt
   each-write Pmr = keeps PriorityMask tt
   each-write Bpr = keeps BinaryPoint tt
@@ -90,14 +90,14 @@ module _ (shape : Shape) (v : ℕ) (s : List ℕ) (P : List ℕ → Type 0) (sam
         go true e = give (looked e)
         go false e = simp e same
 
-    pub read-cases : (register : CpuInterfaceRegister) → (readLooksUp register (enabledAt shape s) ≡ true → v < shape .count) → P (afterRead shape v register s)
+    pub read-cases : (register : CpuInterfaceRegister) → (readRegisterLooksUp register (enabledAt shape s) ≡ true → v < shape .count) → P (afterRead shape v register s)
     read-cases = each-read shape v s (λ register looksUp answer r. (looksUp ≡ true → v < shape .count) → P r) (λ register no looksUp x looked. same) (λ register e. acknowledge-case)
 
   module _ (value : ℕ)
       (keep : v < shape .count → (k : InterfaceValue) → OffStack (Interface v k) → P (withInterface shape v k value s))
       (end : v < shape .count → (n : ℕ) → P (ended shape v n s))
       (off : v < shape .count → (n : ℕ) → P (deactivated shape v n s)) where
-    pub write-cases : (register : CpuInterfaceRegister) → (writeLooksUp register value ≡ true → v < shape .count) → P (writeRegister shape v register value s)
+    pub write-cases : (register : CpuInterfaceRegister) → (writeRegisterLooksUp register value ≡ true → v < shape .count) → P (writeRegister shape v register value s)
     write-cases =
         each-write shape v s value (λ looksUp number r. (looksUp ≡ true → v < shape .count) → P r)
         (λ looksUp looked. same)

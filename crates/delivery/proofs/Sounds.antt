@@ -19,7 +19,7 @@ use Rattle.service.proofs.Soundness.{sound-served}
 use Rattle.service.proofs.Stacks.{popped-room, popped-others, popped-depth}
 use Rattle.acknowledge.specs.Acknowledge.{acknowledged}
 use Rattle.end.specs.End.{deactivated, ended}
-use Rattle.cpu_interface.specs.CpuInterface.{afterRead, writeRegister, readLooksUp, writeLooksUp}
+use Rattle.cpu_interface.specs.CpuInterface.{afterRead, writeRegister, readRegisterLooksUp, writeRegisterLooksUp}
 use Rattle.delivery.proofs.Answers.{acknowledged-cases}
 use Rattle.delivery.proofs.Deactivation.{deactivated-room, deactivated-others}
 use Rattle.delivery.proofs.Ended.{ended-keeps}
@@ -64,10 +64,10 @@ module _ (shape : Shape) (v : ℕ) (s : List ℕ) (h : Sound shape s) (exists : 
 
 -- every read and write, by a vCPU that exists where it is looked up
 module _ (shape : Shape) (v : ℕ) (s : List ℕ) (h : Sound shape s) where
-  pub read-sound : (register : CpuInterfaceRegister) → (readLooksUp register (enabledAt shape s) ≡ true → v < shape .count) → Sound shape (afterRead shape v register s)
+  pub read-sound : (register : CpuInterfaceRegister) → (readRegisterLooksUp register (enabledAt shape s) ≡ true → v < shape .count) → Sound shape (afterRead shape v register s)
   read-sound = read-cases shape v s (Sound shape) h (acknowledged-sound shape v s h)
 
-  pub write-sound : (register : CpuInterfaceRegister) (value : ℕ) → (writeLooksUp register value ≡ true → v < shape .count) → Sound shape (writeRegister shape v register value s)
+  pub write-sound : (register : CpuInterfaceRegister) (value : ℕ) → (writeRegisterLooksUp register value ≡ true → v < shape .count) → Sound shape (writeRegister shape v register value s)
   write-sound register value =
       write-cases shape v s (Sound shape) h value
       (λ x k off. interface-sound shape v s h x k value off)

@@ -12,31 +12,31 @@ use Rattle.register.specs.declared.distributor.DistributorAccess.the-variants.{
 use Rattle.register.specs.Distributor.{locateDistributor}
 use Rattle.state.specs.declared.layout.Shape.{Shape}
 use Rattle.state.specs.Lent.{validated}
-use Rattle.places.specs.Places.{readLooksUp, writeLooksUp, readPlace, writePlace}
+use Rattle.places.specs.Places.{readPlaceLooksUp, writePlaceLooksUp, readPlace, writePlace}
 use Rattle.answer.specs.Answer.{Outcome, refused, gave, went, onState, lookedUp}
 
 abbrev pub privateWidth : Shape → ℕ → List ℕ → Outcome
 privateWidth shape v s = lookedUp true shape v s (refused refusal.Width s)
 
-abbrev pub readAt : Shape → ℕ → Place → AccessWidth → List ℕ → Outcome
-readAt shape v place width s = lookedUp (readLooksUp (place .class) (place .private)) shape v s (gave (readPlace shape v place width s) s)
+abbrev pub readDistributorAt : Shape → ℕ → Place → AccessWidth → List ℕ → Outcome
+readDistributorAt shape v place width s = lookedUp (readPlaceLooksUp (place .class) (place .private)) shape v s (gave (readPlace shape v place width s) s)
 
-abbrev pub writeAt : Shape → ℕ → Place → AccessWidth → ℕ → List ℕ → Outcome
-writeAt shape v place width value s =
-    lookedUp (writeLooksUp (place .class) (place .private) value) shape v s (went shape 1023 s (writePlace shape v place width value s))
+abbrev pub writeDistributorAt : Shape → ℕ → Place → AccessWidth → ℕ → List ℕ → Outcome
+writeDistributorAt shape v place width value s =
+    lookedUp (writePlaceLooksUp (place .class) (place .private) value) shape v s (went shape 1023 s (writePlace shape v place width value s))
 
-abbrev pub readAccess : Shape → ℕ → DistributorAccess → AccessWidth → List ℕ → Outcome
-readAccess shape v (Refused r) width s = refused r s
-readAccess shape v PrivateWidth width s = privateWidth shape v s
-readAccess shape v (At place) width s = readAt shape v place width s
+abbrev pub readDistributorAccess : Shape → ℕ → DistributorAccess → AccessWidth → List ℕ → Outcome
+readDistributorAccess shape v (Refused r) width s = refused r s
+readDistributorAccess shape v PrivateWidth width s = privateWidth shape v s
+readDistributorAccess shape v (At place) width s = readDistributorAt shape v place width s
 
-abbrev pub writeAccess : Shape → ℕ → DistributorAccess → AccessWidth → ℕ → List ℕ → Outcome
-writeAccess shape v (Refused r) width value s = refused r s
-writeAccess shape v PrivateWidth width value s = privateWidth shape v s
-writeAccess shape v (At place) width value s = writeAt shape v place width value s
+abbrev pub writeDistributorAccess : Shape → ℕ → DistributorAccess → AccessWidth → ℕ → List ℕ → Outcome
+writeDistributorAccess shape v (Refused r) width value s = refused r s
+writeDistributorAccess shape v PrivateWidth width value s = privateWidth shape v s
+writeDistributorAccess shape v (At place) width value s = writeDistributorAt shape v place width value s
 
 unfoldable pub readV2Distributor : ℕ → ℕ → AccessWidth → List ℕ → Outcome
-readV2Distributor v offset width s = onState (validated s) s (λ shape. readAccess shape v (locateDistributor offset width) width s)
+readV2Distributor v offset width s = onState (validated s) s (λ shape. readDistributorAccess shape v (locateDistributor offset width) width s)
 
 unfoldable pub writeV2Distributor : ℕ → ℕ → AccessWidth → ℕ → List ℕ → Outcome
-writeV2Distributor v offset width value s = onState (validated s) s (λ shape. writeAccess shape v (locateDistributor offset width) width (value % 2 ^ 32) s)
+writeV2Distributor v offset width value s = onState (validated s) s (λ shape. writeDistributorAccess shape v (locateDistributor offset width) width (value % 2 ^ 32) s)

@@ -5,7 +5,7 @@ ghost use Prim.Native.Nat.{ℕ};
 ghost use Rattle.service.specs.Service.{Sound};
 ghost use Rattle.places.specs.Places.{Located};
 ghost use Rattle.answer.specs.Answer.{outcome};
-ghost use Rattle.distributor_frame.specs.DistributorFrame.{privateWidth, readAt, writeAt, readV2Distributor, writeV2Distributor};
+ghost use Rattle.distributor_frame.specs.DistributorFrame.{privateWidth, readDistributorAt, writeDistributorAt, readV2Distributor, writeV2Distributor};
 use answer::Answer;
 use answer::absent;
 use answer::done;
@@ -39,7 +39,7 @@ fn private_width(shape: Shape, vcpu: GicVcpuId) -> Answer
 
 fn read_at(words: &[u32], shape: Shape, vcpu: GicVcpuId, place: Place, width: AccessWidth) -> Answer
     requires { ⌜ (Sound shape (now words)) × (Located «place» width) ⌝ }
-    ensures { λ r. ⌜ outcome r (now (words .entry)) ≡ readAt shape (vcpu .0) «place» width (now (words .entry)) ⌝ }
+    ensures { λ r. ⌜ outcome r (now (words .entry)) ≡ readDistributorAt shape (vcpu .0) «place» width (now (words .entry)) ⌝ }
 {
     if absent(shape, vcpu, read_looks_up(place)) {
         return Answer::Refused(Refusal::Vcpu);
@@ -74,7 +74,7 @@ fn write_at(
     value: u32,
 ) -> Answer
     requires { ⌜ (Sound shape (now words)) × (Located «place» width) ⌝ }
-    ensures { λ r. ⌜ outcome r (now (words .exit)) ≡ writeAt shape (vcpu .0) «place» width value (now (words .entry)) ⌝ }
+    ensures { λ r. ⌜ outcome r (now (words .exit)) ≡ writeDistributorAt shape (vcpu .0) «place» width value (now (words .entry)) ⌝ }
 {
     if absent(shape, vcpu, write_looks_up(place, value)) {
         return Answer::Refused(Refusal::Vcpu);

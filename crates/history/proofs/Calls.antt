@@ -76,7 +76,7 @@ module _ (shape : Shape) (s : List ℕ) (h : Controls shape s) where
       Iar looked
 
   -- a write to a CPU interface
-  pub write-chain : (v value : ℕ) (register : CpuInterfaceRegister) → (interface-looks.writeLooksUp register value ≡ true → v < shape .count)
+  pub write-chain : (v value : ℕ) (register : CpuInterfaceRegister) → (interface-looks.writeRegisterLooksUp register value ≡ true → v < shape .count)
       → Chain shape (WriteMade v) s (interface-looks.writeRegister shape v register value s)
   write-chain v value register looked =
       write-cases shape v s (Chain shape (WriteMade v) s) none value

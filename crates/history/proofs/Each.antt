@@ -97,7 +97,7 @@ module _ (shape : Shape) (s : List ℕ) (h : Controls shape s) (P : Call → Out
     (acknowledges : (v offset : ℕ) (width : AccessWidth) (register : CpuInterfaceRegister) → locateCpuInterface offset width ≡ interface.At register
     → interface-looks.acknowledging register ≡ true → (enabledAt shape s ≡ true → v < shape .count)
     → P (ReadCpuInterface v offset width) (interface-frame.readAnswer (acknowledge shape v s) s (acknowledged shape v s)))
-    (writes : (v offset : ℕ) (width : AccessWidth) (value : ℕ) (register : CpuInterfaceRegister) → (interface-looks.writeLooksUp register (value % 2 ^ 32) ≡ true → v < shape .count)
+    (writes : (v offset : ℕ) (width : AccessWidth) (value : ℕ) (register : CpuInterfaceRegister) → (interface-looks.writeRegisterLooksUp register (value % 2 ^ 32) ≡ true → v < shape .count)
     → P (WriteCpuInterface v offset width value)
     (went shape (interface-looks.writeRetired shape v register (value % 2 ^ 32) s) s (interface-looks.writeRegister shape v register (value % 2 ^ 32) s)))
     (places-write : (v offset : ℕ) (width : AccessWidth) (value : ℕ) (place : Place) → locateDistributor offset width ≡ distributor.At place
@@ -119,7 +119,7 @@ module _ (shape : Shape) (s : List ℕ) (h : Controls shape s) (P : Call → Out
   private-width : (c : Call) (v : ℕ) → P c (distributor-frame.privateWidth shape v s)
   private-width c v = looked c true v (refused refusal.Width s) (λ e. refuses c refusal.Width (few (omega arith)))
 
-  interface-read : (v offset : ℕ) (width : AccessWidth) (a : CpuInterfaceAccess) → locateCpuInterface offset width ≡ a → Passes a → P (ReadCpuInterface v offset width) (interface-frame.readAccess shape v a s)
+  interface-read : (v offset : ℕ) (width : AccessWidth) (a : CpuInterfaceAccess) → locateCpuInterface offset width ≡ a → Passes a → P (ReadCpuInterface v offset width) (interface-frame.readInterfaceAccess shape v a s)
   interface-read v offset width (interface.Refused r) q p = refuses (ReadCpuInterface v offset width) r (few (omega (arith, p)))
   interface-read v offset width (interface.At register) q p =
       each-read shape v s (λ k looksUp answer r. locateCpuInterface offset width ≡ interface.At k → P c (lookedUp looksUp shape v s (interface-frame.readAnswer answer s r)))
@@ -131,28 +131,28 @@ module _ (shape : Shape) (s : List ℕ) (h : Controls shape s) (P : Call → Out
       c : Call
       c = ReadCpuInterface v offset width
 
-  interface-write : (v offset : ℕ) (width : AccessWidth) (value : ℕ) (a : CpuInterfaceAccess) → Passes a → P (WriteCpuInterface v offset width value) (interface-frame.writeAccess shape v a (value % 2 ^ 32) s)
+  interface-write : (v offset : ℕ) (width : AccessWidth) (value : ℕ) (a : CpuInterfaceAccess) → Passes a → P (WriteCpuInterface v offset width value) (interface-frame.writeInterfaceAccess shape v a (value % 2 ^ 32) s)
   interface-write v offset width value (interface.Refused r) p = refuses (WriteCpuInterface v offset width value) r (few (omega (arith, p)))
   interface-write v offset width value (interface.At register) p =
       let x : ℕ = value % 2 ^ 32 in
-      let looksUp : Bool = interface-looks.writeLooksUp register x in
+      let looksUp : Bool = interface-looks.writeRegisterLooksUp register x in
       looked (WriteCpuInterface v offset width value) looksUp v (went shape (interface-looks.writeRetired shape v register x s) s (interface-looks.writeRegister shape v register x s))
       (λ e. writes v offset width value register (present looksUp shape v e))
 
-  distributor-read : (v offset : ℕ) (width : AccessWidth) (a : DistributorAccess) → locateDistributor offset width ≡ a → P (ReadDistributor v offset width) (distributor-frame.readAccess shape v a width s)
+  distributor-read : (v offset : ℕ) (width : AccessWidth) (a : DistributorAccess) → locateDistributor offset width ≡ a → P (ReadDistributor v offset width) (distributor-frame.readDistributorAccess shape v a width s)
   distributor-read v offset width (distributor.Refused r) p = refuses (ReadDistributor v offset width) r (few (omega (arith, refused-access offset width r p)))
   distributor-read v offset width distributor.PrivateWidth p = private-width (ReadDistributor v offset width) v
   distributor-read v offset width (distributor.At place) p =
       let x : ℕ = places.readPlace shape v place width s in
-      looked (ReadDistributor v offset width) (places.readLooksUp (place .class) (place .private)) v (gave x s) (λ e. reads (ReadDistributor v offset width) x)
+      looked (ReadDistributor v offset width) (places.readPlaceLooksUp (place .class) (place .private)) v (gave x s) (λ e. reads (ReadDistributor v offset width) x)
 
   distributor-write : (v offset : ℕ) (width : AccessWidth) (value : ℕ) (a : DistributorAccess) → locateDistributor offset width ≡ a
-      → P (WriteDistributor v offset width value) (distributor-frame.writeAccess shape v a width (value % 2 ^ 32) s)
+      → P (WriteDistributor v offset width value) (distributor-frame.writeDistributorAccess shape v a width (value % 2 ^ 32) s)
   distributor-write v offset width value (distributor.Refused r) p = refuses (WriteDistributor v offset width value) r (few (omega (arith, refused-access offset width r p)))
   distributor-write v offset width value distributor.PrivateWidth p = private-width (WriteDistributor v offset width value) v
   distributor-write v offset width value (distributor.At place) p =
       let x : ℕ = value % 2 ^ 32 in
-      looked (WriteDistributor v offset width value) (places.writeLooksUp (place .class) (place .private) x) v (went shape 1023 s (places.writePlace shape v place width x s))
+      looked (WriteDistributor v offset width value) (places.writePlaceLooksUp (place .class) (place .private) x) v (went shape 1023 s (places.writePlace shape v place width x s))
       (λ e. places-write v offset width value place p (place-written v sound (record { offset = offset; at = p }) e))
 
   input : (c : Call) (v n : ℕ) (signal : Signal) → (RecordThere shape v n → 16 ≤ n → P c (went shape 1023 s (changed shape v n (signalled signal) s)))

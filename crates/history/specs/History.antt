@@ -5,11 +5,12 @@ use mathlib.Core.Path.{_≡_}
 use mathlib.Core.List.{List, [], _∷_}
 use Prim.Native.Nat.{ℕ}
 use Rattle.register.specs.declared.frame.AccessWidth.{AccessWidth}
+use Rattle.register.specs.declared.frame.AccessWidth.the-variants.{Dword}
 use Rattle.answer.specs.Answer.{Outcome}
 use Rattle.controller.specs.Start.{setup}
 use Rattle.distributor_frame.specs.DistributorFrame.{readV2Distributor, writeV2Distributor}
 use Rattle.cpu_interface_frame.specs.CpuInterfaceFrame.{readV2CpuInterface, writeV2CpuInterface}
-use Rattle.input.specs.Input.{setLevel, pulse}
+use Rattle.input.specs.Input.{deviceLevel, devicePulse}
 
 -- count and limit; vCPU, offset, width and, to write, value; for inputs vCPU, number and, for a line, its level
 pub data Call : Type 0 where
@@ -37,8 +38,21 @@ called (ReadDistributor v offset width) s = readV2Distributor v offset width s
 called (WriteDistributor v offset width value) s = writeV2Distributor v offset width value s
 called (ReadCpuInterface v offset width) s = readV2CpuInterface v offset width s
 called (WriteCpuInterface v offset width value) s = writeV2CpuInterface v offset width value s
-called (SetLevel v n asserted) s = setLevel v n asserted s
-called (Pulse v n) s = pulse v n s
+called (SetLevel v n asserted) s = deviceLevel v n asserted s
+called (Pulse v n) s = devicePulse v n s
+
+-- a guest's calls: a ring (a write to SGIR), an acknowledge (a read of IAR), an end (a write to EOIR), a deactivation (a write to DIR)
+abbrev pub sgirWrite : ℕ → ℕ → Call
+sgirWrite v value = WriteDistributor v 0xf00 Dword value
+
+abbrev pub iarRead : ℕ → Call
+iarRead v = ReadCpuInterface v 0x0c Dword
+
+abbrev pub eoirWrite : ℕ → ℕ → Call
+eoirWrite v n = WriteCpuInterface v 0x10 Dword n
+
+abbrev pub dirWrite : ℕ → ℕ → Call
+dirWrite v n = WriteCpuInterface v 0x1000 Dword n
 
 -- the state after a history
 unfoldable pub run : List Call → List ℕ → List ℕ

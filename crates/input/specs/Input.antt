@@ -31,8 +31,8 @@ inputAt shape v signal (Device n) s = lookedUp (ltb (n .0) 32) shape v s (went s
 unfoldable pub deviceInput : Signal → ℕ → ℕ → List ℕ → Outcome
 deviceInput signal v n s = onState (validated s) s (λ shape. inputAt shape v signal (inputOf shape n) s)
 
-abbrev pub setLevel : ℕ → ℕ → Bool → List ℕ → Outcome
-setLevel v n asserted s = deviceInput (Level asserted) v n s
+abbrev pub deviceLevel : ℕ → ℕ → Bool → List ℕ → Outcome
+deviceLevel v n asserted s = deviceInput (Level asserted) v n s
 
-abbrev pub pulse : ℕ → ℕ → List ℕ → Outcome
-pulse v n s = deviceInput Edge v n s
+abbrev pub devicePulse : ℕ → ℕ → List ℕ → Outcome
+devicePulse v n s = deviceInput Edge v n s

@@ -3,7 +3,7 @@ ghost use mathlib.Core.Path.{_≡_};
 ghost use Rattle.state.specs.Words.{Reached, changed};
 ghost use Rattle.service.specs.Service.{Sound};
 ghost use Rattle.answer.specs.Answer.{outcome};
-ghost use Rattle.input.specs.Input.{signalled, inputOf, inputAt, deviceInput, setLevel, pulse};
+ghost use Rattle.input.specs.Input.{signalled, inputOf, inputAt, deviceInput, deviceLevel, devicePulse};
 use answer::Answer;
 use answer::absent;
 use answer::done;
@@ -87,13 +87,13 @@ fn device_input(words: &mut [u32], vcpu: GicVcpuId, number: u64, signal: Signal)
 }
 
 pub fn set_level(words: &mut [u32], vcpu: GicVcpuId, number: u64, asserted: bool) -> Answer
-    ensures { λ r. ⌜ outcome r (now (words .exit)) ≡ setLevel (vcpu .0) number asserted (now (words .entry)) ⌝ }
+    ensures { λ r. ⌜ outcome r (now (words .exit)) ≡ deviceLevel (vcpu .0) number asserted (now (words .entry)) ⌝ }
 {
     device_input(words, vcpu, number, Signal::Level(asserted))
 }
 
 pub fn pulse(words: &mut [u32], vcpu: GicVcpuId, number: u64) -> Answer
-    ensures { λ r. ⌜ outcome r (now (words .exit)) ≡ pulse (vcpu .0) number (now (words .entry)) ⌝ }
+    ensures { λ r. ⌜ outcome r (now (words .exit)) ≡ devicePulse (vcpu .0) number (now (words .entry)) ⌝ }
 {
     device_input(words, vcpu, number, Signal::Edge)
 }

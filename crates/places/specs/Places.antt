@@ -41,23 +41,23 @@ abbrev pub sends : ℕ → Bool
 sends value = names (sgiTarget value)
 
 -- `own`: the place is private, and each vCPU has its own
-abbrev pub readLooksUp : Class → Bool → Bool
-readLooksUp Ctlr own = false
-readLooksUp Typer own = false
-readLooksUp Iidr own = false
-readLooksUp Sgir own = false
-readLooksUp (Bits register) own = own
-readLooksUp (Bytes register) own = byteLooksUp register own
-readLooksUp Other own = false
+abbrev pub readPlaceLooksUp : Class → Bool → Bool
+readPlaceLooksUp Ctlr own = false
+readPlaceLooksUp Typer own = false
+readPlaceLooksUp Iidr own = false
+readPlaceLooksUp Sgir own = false
+readPlaceLooksUp (Bits register) own = own
+readPlaceLooksUp (Bytes register) own = byteLooksUp register own
+readPlaceLooksUp Other own = false
 
-abbrev pub writeLooksUp : Class → Bool → ℕ → Bool
-writeLooksUp Ctlr own value = false
-writeLooksUp Typer own value = false
-writeLooksUp Iidr own value = false
-writeLooksUp Sgir own value = sends value
-writeLooksUp (Bits register) own value = own
-writeLooksUp (Bytes register) own value = byteLooksUp register own
-writeLooksUp Other own value = false
+abbrev pub writePlaceLooksUp : Class → Bool → ℕ → Bool
+writePlaceLooksUp Ctlr own value = false
+writePlaceLooksUp Typer own value = false
+writePlaceLooksUp Iidr own value = false
+writePlaceLooksUp Sgir own value = sends value
+writePlaceLooksUp (Bits register) own value = own
+writePlaceLooksUp (Bytes register) own value = byteLooksUp register own
+writePlaceLooksUp Other own value = false
 
 -- "SGIR reads 0"; "Every other place .. reads 0"
 abbrev pub readClass : Shape → ℕ → Class → ℕ → AccessWidth → List ℕ → ℕ
@@ -98,12 +98,12 @@ pub record Located (place : Place) (width : AccessWidth) : Type 0 where
 pub record PlaceRead (shape : Shape) (v : ℕ) (place : Place) (width : AccessWidth) (s : List ℕ) : Type 0 where
   pub state : Room shape s
   pub located : Located place width
-  pub looked : readLooksUp (place .class) (place .private) ≡ true → v < shape .count
+  pub looked : readPlaceLooksUp (place .class) (place .private) ≡ true → v < shape .count
 
 pub record PlaceWritten (shape : Shape) (v : ℕ) (place : Place) (width : AccessWidth) (value : ℕ) (s : List ℕ) : Type 0 where
   pub state : Room shape s
   pub located : Located place width
-  pub looked : writeLooksUp (place .class) (place .private) value ≡ true → v < shape .count
+  pub looked : writePlaceLooksUp (place .class) (place .private) value ≡ true → v < shape .count
 
 pub record Ringing (shape : Shape) (v value : ℕ) (s : List ℕ) : Type 0 where
   pub state : Room shape s

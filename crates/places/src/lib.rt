@@ -1,7 +1,7 @@
 // What an accepted access to the Distributor reads, what a write to it does, and where it looks up its vCPU. Mirrors the two tables at the
 // top of v2.rs.
 ghost use mathlib.Core.Path.{_≡_};
-ghost use Rattle.places.specs.Places.{byteLooksUp, sends, readLooksUp, writeLooksUp, ringed, readPlace, writePlace, Ringing, PlaceRead, PlaceWritten};
+ghost use Rattle.places.specs.Places.{byteLooksUp, sends, readPlaceLooksUp, writePlaceLooksUp, ringed, readPlace, writePlace, Ringing, PlaceRead, PlaceWritten};
 use bits::read_bits;
 use bits::write_bits;
 use distributor::bytes::read_bytes;
@@ -44,7 +44,7 @@ fn sends(value: u32) -> bool
 }
 
 pub fn read_looks_up(place: Place) -> bool
-    ensures { λ r. ⌜ r ≡ readLooksUp (place .class) (place .«private») ⌝ }
+    ensures { λ r. ⌜ r ≡ readPlaceLooksUp (place .class) (place .«private») ⌝ }
 {
     let class = place.class;
     match class {
@@ -59,7 +59,7 @@ pub fn read_looks_up(place: Place) -> bool
 }
 
 pub fn write_looks_up(place: Place, value: u32) -> bool
-    ensures { λ r. ⌜ r ≡ writeLooksUp (place .class) (place .«private») value ⌝ }
+    ensures { λ r. ⌜ r ≡ writePlaceLooksUp (place .class) (place .«private») value ⌝ }
 {
     let class = place.class;
     match class {

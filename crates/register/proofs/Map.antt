@@ -17,7 +17,7 @@ use Rattle.register.specs.declared.ranges.Class.{Class}
 use Rattle.register.specs.declared.ranges.Class.the-variants.{Ctlr, Typer, Iidr, Sgir, Bits, Bytes, Other}
 use Rattle.register.specs.declared.ranges.RegisterRange.{RegisterRange}
 use Rattle.register.specs.Distributor.{bitNumbersPerByte}
-use Rattle.register.specs.Ranges.{ranges, nowhere, holds, rangeIn, rangeAt, classAt, numberOf, rangeNumbered, classOf, rangeOf}
+use Rattle.register.specs.Ranges.{ranges, nowhere, holds, rangeIn, rangeAt, classAt, classNumber, rangeNumbered, classOf, rangeOf}
 use Rattle.register.proofs.Table.{every, at, tabulate, getD-tabulate}
 use Rattle.register.proofs.Tests.{both-left, both-right, is-true, leb-same}
 
@@ -27,7 +27,7 @@ unfolding rangeNumbered ranges
 numbered-past n h = List·getD-eq-default ranges nowhere h
 
 -- a class is the class of its number ..
-pub class-of-number : (c : Class) → classOf (numberOf c) ≡ c
+pub class-of-number : (c : Class) → classOf (classNumber c) ≡ c
 unfolding classOf rangeNumbered ranges
 class-of-number Ctlr = refl
 class-of-number Typer = refl
@@ -49,19 +49,19 @@ class-of-number Other = refl
 
 -- .. and a number is the number of its class, row by row
 numbered : ℕ → RegisterRange → Bool
-numbered n r = eqb (numberOf (r .class)) n
+numbered n r = eqb (classNumber (r .class)) n
 
-numbered-row : (n : ℕ) → n < 16 → numberOf (classOf n) ≡ n
+numbered-row : (n : ℕ) → n < 16 → classNumber (classOf n) ≡ n
 unfolding classOf rangeNumbered ranges numbered
-numbered-row n h = eqb→eq (numberOf (rangeNumbered n .class)) n (at numbered ranges tt n nowhere h)
+numbered-row n h = eqb→eq (classNumber (rangeNumbered n .class)) n (at numbered ranges tt n nowhere h)
 
-pub number-of-class : (n : ℕ) → n ≤ 16 → numberOf (classOf n) ≡ n
+pub number-of-class : (n : ℕ) → n ≤ 16 → classNumber (classOf n) ≡ n
 unfolding classOf
 number-of-class n h = go (ltb n 16) refl
   where
-    go : (t : Bool) → ltb n 16 ≡ t → numberOf (classOf n) ≡ n
+    go : (t : Bool) → ltb n 16 ≡ t → classNumber (classOf n) ≡ n
     go true e = numbered-row n (ltb-true n 16 e)
-    go false e = let i : 16 ≤ n = ltb-false n 16 e in ap (λ (r : RegisterRange). numberOf (r .class)) (numbered-past n i) ∙ omega arith
+    go false e = let i : 16 ≤ n = ltb-false n 16 e in ap (λ (r : RegisterRange). classNumber (r .class)) (numbered-past n i) ∙ omega arith
 
 -- ranges are whole words: what holds an offset holds the word around it
 inWords : ℕ → RegisterRange → Bool
@@ -193,14 +193,14 @@ range-whole o = by-row (λ r. (r ≡ nowhere) ⊎ Whole r o) o (λ n h t. inr (w
 
 -- the class numbers of 256 places, computed: what each quarter of the dispatch table has to be
 unfoldable pub classNumbers : ℕ → List ℕ
-classNumbers quarter = tabulate (λ (k : ℕ). numberOf (classAt (4 * k))) (256 * quarter) 256
+classNumbers quarter = tabulate (λ (k : ℕ). classNumber (classAt (4 * k))) (256 * quarter) 256
 
-pub class-numbers : (quarter place : ℕ) → place / 256 ≡ quarter → getD (classNumbers quarter) (place % 256) 0 ≡ numberOf (classAt (4 * place))
+pub class-numbers : (quarter place : ℕ) → place / 256 ≡ quarter → getD (classNumbers quarter) (place % 256) 0 ≡ classNumber (classAt (4 * place))
 unfolding classNumbers
 class-numbers quarter place h = getD-tabulate number (256 * quarter) 256 (place % 256) 0 (omega arith) ∙ ap number (omega (arith, h))
   where
     number : ℕ → ℕ
-    number n = numberOf (classAt (4 * n))
+    number n = classNumber (classAt (4 * n))
 
 -- a byte belongs to 8 interrupts at most
 pub few-numbers : (r : BitRegister) → bitNumbersPerByte r ≤ 8

@@ -13,7 +13,7 @@ use Rattle.register.specs.declared.ranges.Class.{Class}
 use Rattle.register.specs.declared.ranges.Class.the-variants.{Ctlr, Typer, Iidr, Sgir, Bits, Bytes, Other}
 use Rattle.register.specs.declared.distributor.DistributorAccess.{DistributorAccess}
 use Rattle.register.specs.declared.distributor.DistributorAccess.the-variants.{Refused, PrivateWidth, At}
-use Rattle.register.specs.Distributor.{placeAt, plain, elsewhere, wordStart, unfit, single, bitWord, byteArray, within, locateInFrame, locateDistributor}
+use Rattle.register.specs.Distributor.{placeAt, plain, otherPlace, wordStart, unfit, single, bitWord, byteArray, within, locateInFrame, locateDistributor}
 use Rattle.register.specs.Frame.{refusalNumber, isDword, isQword, aligned, inFrame}
 use Rattle.register.specs.Ranges.{classAt}
 use Rattle.register.proofs.Access.{in-frame-aligned}
@@ -48,7 +48,7 @@ module _ (o : ℕ) (w : AccessWidth) (P : DistributorAccess → Type 0)
   singly : (c : Class) → isSingle c ≡ true → P (single c o w)
   unfolding single
   singly c e =
-      chosen (wordStart o) (cond (isDword w) (At (plain c)) (Refused Width)) elsewhere
+      chosen (wordStart o) (cond (isDword w) (At (plain c)) (Refused Width)) otherPlace
       (λ s. chosen (isDword w) (At (plain c)) (Refused Width) (λ d. alone c e) (λ d. by-width))
       (λ s. alone Other refl)
 

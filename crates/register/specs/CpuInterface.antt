@@ -12,32 +12,32 @@ use Rattle.register.specs.declared.«cpu_interface».CpuInterfaceAccess.
 use Rattle.register.specs.declared.«cpu_interface».CpuInterfaceAccess.the-variants.{Refused, At}
 use Rattle.register.specs.Frame.{isDword, refusalNumber, inFrame}
 
-pub record Row : Type 0 where
+pub record RegisterRow : Type 0 where
   pub offset : ℕ
   pub register : CpuInterfaceRegister
 
-abbrev pub row : ℕ → CpuInterfaceRegister → Row
-row offset register = record { offset = offset; register = register }
+abbrev pub registerRow : ℕ → CpuInterfaceRegister → RegisterRow
+registerRow offset register = record { offset = offset; register = register }
 
-unfoldable pub registers : List Row
+unfoldable pub registers : List RegisterRow
 registers =
-    row 0x00 Ctlr
-    ∷ row 0x04 Pmr
-    ∷ row 0x08 Bpr
-    ∷ row 0x0c Iar
-    ∷ row 0x10 Eoir
-    ∷ row 0x14 Rpr
-    ∷ row 0x18 Hppir
-    ∷ row 0x1c Abpr
-    ∷ row 0x20 Aiar
-    ∷ row 0x24 Aeoir
-    ∷ row 0x28 Ahppir
-    ∷ row 0xd0 Apr
-    ∷ row 0xfc Iidr
-    ∷ row 0x1000 Dir
+    registerRow 0x00 Ctlr
+    ∷ registerRow 0x04 Pmr
+    ∷ registerRow 0x08 Bpr
+    ∷ registerRow 0x0c Iar
+    ∷ registerRow 0x10 Eoir
+    ∷ registerRow 0x14 Rpr
+    ∷ registerRow 0x18 Hppir
+    ∷ registerRow 0x1c Abpr
+    ∷ registerRow 0x20 Aiar
+    ∷ registerRow 0x24 Aeoir
+    ∷ registerRow 0x28 Ahppir
+    ∷ registerRow 0xd0 Apr
+    ∷ registerRow 0xfc Iidr
+    ∷ registerRow 0x1000 Dir
     ∷ []
 
-unfoldable pub registerIn : List Row → ℕ → CpuInterfaceRegister
+unfoldable pub registerIn : List RegisterRow → ℕ → CpuInterfaceRegister
 registerIn [] offset = Other
 registerIn (r ∷ rs) offset = cond (eqb offset (r .offset)) (r .register) (registerIn rs offset)
 

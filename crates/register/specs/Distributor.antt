@@ -71,8 +71,8 @@ abbrev pub plain : Class → Place
 plain class = record { class = class; first = record { 0 = 0 }; private = false }
 
 -- "Every other place .. reads 0 and ignores writes at any width"
-abbrev pub elsewhere : DistributorAccess
-elsewhere = At (plain Other)
+abbrev pub otherPlace : DistributorAccess
+otherPlace = At (plain Other)
 
 -- a width that the register does not take; "at private registers 3 comes before 2"
 unfoldable pub unfit : Place → DistributorAccess
@@ -83,7 +83,7 @@ wordStart offset = eqb (offset % 4) 0
 
 -- "4 bytes only"; "a start inside CTLR, TYPER, IIDR or SGIR (not at its first byte)" is another place
 unfoldable pub single : Class → ℕ → AccessWidth → DistributorAccess
-single class offset width = cond (wordStart offset) (cond (isDword width) (At (plain class)) (Refused Width)) elsewhere
+single class offset width = cond (wordStart offset) (cond (isDword width) (At (plain class)) (Refused Width)) otherPlace
 
 -- "4 bytes only, aligned; a narrower access that starts inside one of their words, past its first byte, is refused by 2 without a vCPU
 -- lookup"
@@ -101,7 +101,7 @@ within Iidr offset width = single Iidr offset width
 within Sgir offset width = single Sgir offset width
 within (Bits register) offset width = bitWord (placeAt offset) offset width
 within (Bytes register) offset width = byteArray (placeAt offset) width
-within Other offset width = elsewhere
+within Other offset width = otherPlace
 
 unfoldable pub locateInFrame : ℕ → AccessWidth → DistributorAccess
 locateInFrame offset width = within (classAt offset) offset width

@@ -72,14 +72,14 @@ byteNumber Itargetsr = 11
 byteNumber Cpendsgir = 14
 byteNumber Spendsgir = 15
 
-abbrev pub numberOf : Class → ℕ
-numberOf Ctlr = 0
-numberOf Typer = 1
-numberOf Iidr = 2
-numberOf Sgir = 13
-numberOf (Bits register) = bitNumber register
-numberOf (Bytes register) = byteNumber register
-numberOf Other = 16
+abbrev pub classNumber : Class → ℕ
+classNumber Ctlr = 0
+classNumber Typer = 1
+classNumber Iidr = 2
+classNumber Sgir = 13
+classNumber (Bits register) = bitNumber register
+classNumber (Bytes register) = byteNumber register
+classNumber Other = 16
 
 -- the row at a number, and its class; numbers from 16 up have none
 unfoldable pub rangeNumbered : ℕ → RegisterRange
@@ -89,4 +89,4 @@ unfoldable pub classOf : ℕ → Class
 classOf n = rangeNumbered n .class
 
 unfoldable pub rangeOf : Class → RegisterRange
-rangeOf c = rangeNumbered (numberOf c)
+rangeOf c = rangeNumbered (classNumber c)

@@ -2,7 +2,7 @@
 // constant on the stack, so that a table in one piece would cost four times as much.
 ghost use mathlib.Core.Path.{_≡_};
 ghost use Prim.Native.Nat.{_*_, _<_};
-ghost use Rattle.register.specs.Ranges.{classAt, numberOf};
+ghost use Rattle.register.specs.Ranges.{classAt, classNumber};
 use crate::ranges::Class;
 
 // Entry k is the class number of the range that holds offset 4k, 16 where no range does: `class_number` has it proved at each entry.
@@ -1071,7 +1071,7 @@ const LAST_NUMBERS: [u8; 256] = [
 // The number at a 32-bit place.
 fn class_number(place: usize) -> u8
     requires { ⌜ place < 1024 ⌝ }
-    ensures { λ r. ⌜ r ≡ numberOf (classAt (4 * place)) ⌝ }
+    ensures { λ r. ⌜ r ≡ classNumber (classAt (4 * place)) ⌝ }
 {
     let at = place % 256;
     match place / 256 {

@@ -1,6 +1,6 @@
 // The Distributor's registers and where each lies (IHI 0048, Table 4-1, "Distributor register map").
 ghost use mathlib.Core.Path.{_≡_};
-ghost use Rattle.register.specs.Ranges.{bitNumber, byteNumber, numberOf, classOf, rangeOf};
+ghost use Rattle.register.specs.Ranges.{bitNumber, byteNumber, classNumber, classOf, rangeOf};
 
 // Registers with one bit for each interrupt, or two.
 pub enum BitRegister {
@@ -156,7 +156,7 @@ impl ByteRegister {
 
 impl Class {
     pub fn number(self) -> u8
-        ensures { λ r. ⌜ r ≡ numberOf self ⌝ }
+        ensures { λ r. ⌜ r ≡ classNumber self ⌝ }
     {
         match self {
             Class::Ctlr => 0,

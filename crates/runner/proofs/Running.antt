@@ -13,20 +13,20 @@ use borrow.Author.Tests.{lt-ltb, le-ltb, eq-eqb, ne-eqb, ltb-true, ltb-false}
 use Rattle.script.specs.Text.{Put}
 use Rattle.runner.specs.declared.blocks.Progress.{Progress}
 use Rattle.script.proofs.Puts.{put-then}
-use Rattle.runner.specs.Runner.{Run, lineAnswer, Prints, kept, after, ran, Went, Ran, Fed}
+use Rattle.runner.specs.Runner.{Run, lineAnswer, Prints, keptLine, textThen, ran, Went, Ran, Fed}
 
-pub ran-append : (a b line s : List ℕ) → ran (a ++ b) line s ≡ after (ran a line s .text) (ran b (ran a line s .line) (ran a line s .state))
+pub ran-append : (a b line s : List ℕ) → ran (a ++ b) line s ≡ textThen (ran a line s .text) (ran b (ran a line s .line) (ran a line s .state))
 unfolding ran
 ran-append [] b line s = refl
-ran-append (c ∷ a) b line s = go (eqb c 10) (ran-append a b [] (lineAnswer line s .state)) (ran-append a b (kept line c) s)
+ran-append (c ∷ a) b line s = go (eqb c 10) (ran-append a b [] (lineAnswer line s .state)) (ran-append a b (keptLine line c) s)
   where
     go : (x : Bool) → ran (a ++ b) [] (lineAnswer line s .state)
-        ≡ after (ran a [] (lineAnswer line s .state) .text) (ran b (ran a [] (lineAnswer line s .state) .line) (ran a [] (lineAnswer line s .state) .state))
-        → ran (a ++ b) (kept line c) s ≡ after (ran a (kept line c) s .text) (ran b (ran a (kept line c) s .line) (ran a (kept line c) s .state))
-        → cond x (after (lineAnswer line s .text) (ran (a ++ b) [] (lineAnswer line s .state))) (ran (a ++ b) (kept line c) s)
-        ≡ after (cond x (after (lineAnswer line s .text) (ran a [] (lineAnswer line s .state))) (ran a (kept line c) s) .text)
-        (ran b (cond x (after (lineAnswer line s .text) (ran a [] (lineAnswer line s .state))) (ran a (kept line c) s) .line)
-        (cond x (after (lineAnswer line s .text) (ran a [] (lineAnswer line s .state))) (ran a (kept line c) s) .state))
+        ≡ textThen (ran a [] (lineAnswer line s .state) .text) (ran b (ran a [] (lineAnswer line s .state) .line) (ran a [] (lineAnswer line s .state) .state))
+        → ran (a ++ b) (keptLine line c) s ≡ textThen (ran a (keptLine line c) s .text) (ran b (ran a (keptLine line c) s .line) (ran a (keptLine line c) s .state))
+        → cond x (textThen (lineAnswer line s .text) (ran (a ++ b) [] (lineAnswer line s .state))) (ran (a ++ b) (keptLine line c) s)
+        ≡ textThen (cond x (textThen (lineAnswer line s .text) (ran a [] (lineAnswer line s .state))) (ran a (keptLine line c) s) .text)
+        (ran b (cond x (textThen (lineAnswer line s .text) (ran a [] (lineAnswer line s .state))) (ran a (keptLine line c) s) .line)
+        (cond x (textThen (lineAnswer line s .text) (ran a [] (lineAnswer line s .state))) (ran a (keptLine line c) s) .state))
     go true answered same = rw answered (simp append-assoc)
     go false answered same = same
 
@@ -38,7 +38,7 @@ run-newline : (b : ℕ) (line s : List ℕ) → b ≡ 10
 unfolding ran
 run-newline b line s e = simp (eq-eqb b 10 e, append-nil)
 
-run-byte : (b : ℕ) (line s : List ℕ) → (b ≡ 10 → ⊥) → ran (b ∷ []) line s ≡ record { text = []; line = kept line b; state = s }
+run-byte : (b : ℕ) (line s : List ℕ) → (b ≡ 10 → ⊥) → ran (b ∷ []) line s ≡ record { text = []; line = keptLine line b; state = s }
 unfolding ran
 run-byte b line s e = simp (ne-eqb b 10 e)
 
@@ -54,7 +54,7 @@ module _ (n : ℕ) (line words : List ℕ) where
 
   -- the bytes b after a
   both : {a : List ℕ} (b : List ℕ) {n' : ℕ} {line' words' : List ℕ} → Went a n line words n' line' words'
-      → ran (a ++ b) (take n line) words ≡ after (ran a (take n line) words .text) (ran b (take n' line') words')
+      → ran (a ++ b) (take n line) words ≡ textThen (ran a (take n line) words .text) (ran b (take n' line') words')
   both {a} b p = ran-append a b (take n line) words ∙ rw (p .partial, p .state)
 
   pub went-then : {a b : List ℕ} {n' n'' : ℕ} {line' words' line'' words'' : List ℕ}
@@ -87,13 +87,13 @@ module _ (n : ℕ) (line words : List ℕ) (at : ℕ) (out : List ℕ) where
   pub byte-kept : (b : ℕ) → (b ≡ 10 → ⊥) → n < 81 → 81 ≤ length line → at ≤ length out → Ran (b ∷ []) n line words at out (n + 1) (set line n b) words at out
   byte-kept b e h room k =
       let some = length-take-le n line (omega arith) in
-      let one-more : take (n + 1) (set line n b) ≡ kept (take n line) b = simp (add-one, some, lt-ltb n 81 h) (take-suc-set line n b (omega arith)) in
+      let one-more : take (n + 1) (set line n b) ≡ keptLine (take n line) b = simp (add-one, some, lt-ltb n 81 h) (take-suc-set line n b (omega arith)) in
       ran-as _ (run-byte b (take n line) words e) (omega arith) one-more refl (put-none at out k)
 
   pub byte-dropped : (b : ℕ) → (b ≡ 10 → ⊥) → 81 ≤ n → n ≤ 81 → 81 ≤ length line → at ≤ length out → Ran (b ∷ []) n line words at out n line words at out
   byte-dropped b e h few room k =
       let some = length-take-le n line (omega arith) in
-      let none-more : take n line ≡ kept (take n line) b = simp (some, le-ltb n 81 h) in
+      let none-more : take n line ≡ keptLine (take n line) b = simp (some, le-ltb n 81 h) in
       ran-as _ (run-byte b (take n line) words e) few none-more refl (put-none at out k)
 
 -- one byte more

@@ -11,7 +11,7 @@ use Rattle.answer.specs.declared.Answer.{Answer}
 use Rattle.answer.specs.Answer.{Outcome, refusalIn, valueIn, wakeIn, retiredIn}
 use Rattle.cpu_interface_frame.specs.CpuInterfaceFrame.{readV2CpuInterface, writeV2CpuInterface}
 use Rattle.distributor_frame.specs.DistributorFrame.{readV2Distributor, writeV2Distributor}
-use Rattle.input.specs.Input.{setLevel, pulse}
+use Rattle.input.specs.Input.{deviceLevel, devicePulse}
 use Rattle.controller.specs.Start.{setup}
 use Rattle.script.specs.declared.request.Request.{Request}
 use Rattle.script.specs.declared.request.Request.the-variants.{Setup, ReadDistributor, WriteDistributor, ReadCpuInterface, WriteCpuInterface, SetLevel, Pulse, Unknown}
@@ -25,25 +25,25 @@ pub record Printed : Type 0 where
   pub state : List ℕ
 
 -- "It prints refusal, value, wake set and retired number"
-abbrev pub answered : Outcome → Printed
-answered o = record { text = answerText (o .refusal) (o .value) (o .wake) (o .retired); state = o .state }
+abbrev pub outcomePrinted : Outcome → Printed
+outcomePrinted o = record { text = answerText (o .refusal) (o .value) (o .wake) (o .retired); state = o .state }
 
 abbrev pub textOf : Answer → List ℕ
 textOf a = answerText (refusalIn a) (valueIn a) (wakeIn a) (retiredIn a)
 
 -- the call of each form; "A line of any other form prints `?`"
-unfoldable pub called : Request → List ℕ → Printed
-called (Setup n) s = answered (setup (n .count) (n .limit) s)
-called (ReadDistributor d) s = answered (readV2Distributor (d .vcpu .0) (d .offset) (d .width) s)
-called (WriteDistributor d) s = answered (writeV2Distributor (d .vcpu .0) (d .offset) (d .width) (d .value) s)
-called (ReadCpuInterface c) s = answered (readV2CpuInterface (c .vcpu .0) (c .offset) (c .width) s)
-called (WriteCpuInterface c) s = answered (writeV2CpuInterface (c .vcpu .0) (c .offset) (c .width) (c .value) s)
-called (SetLevel l) s = answered (setLevel (l .vcpu .0) (l .number) (l .asserted) s)
-called (Pulse p) s = answered (pulse (p .vcpu .0) (p .number) s)
-called Unknown s = record { text = unknownText; state = s }
+unfoldable pub requestPrinted : Request → List ℕ → Printed
+requestPrinted (Setup n) s = outcomePrinted (setup (n .count) (n .limit) s)
+requestPrinted (ReadDistributor d) s = outcomePrinted (readV2Distributor (d .vcpu .0) (d .offset) (d .width) s)
+requestPrinted (WriteDistributor d) s = outcomePrinted (writeV2Distributor (d .vcpu .0) (d .offset) (d .width) (d .value) s)
+requestPrinted (ReadCpuInterface c) s = outcomePrinted (readV2CpuInterface (c .vcpu .0) (c .offset) (c .width) s)
+requestPrinted (WriteCpuInterface c) s = outcomePrinted (writeV2CpuInterface (c .vcpu .0) (c .offset) (c .width) (c .value) s)
+requestPrinted (SetLevel l) s = outcomePrinted (deviceLevel (l .vcpu .0) (l .number) (l .asserted) s)
+requestPrinted (Pulse p) s = outcomePrinted (devicePulse (p .vcpu .0) (p .number) s)
+requestPrinted Unknown s = record { text = unknownText; state = s }
 
 unfoldable pub lineAnswer : List ℕ → List ℕ → Printed
-lineAnswer line s = called (requestOf line) s
+lineAnswer line s = requestPrinted (requestOf line) s
 
 pub record Prints (p : Printed) (at : ℕ) (words' out out' : List ℕ) (end : ℕ) : Type 0 where
   pub state : words' ≡ p .state
@@ -55,13 +55,13 @@ linesAfter line [] = cond (ltb 0 (length line)) (line ∷ []) []
 linesAfter line (b ∷ bs) = cond (eqb b 10) (line ∷ linesAfter [] bs) (linesAfter (line ++ b ∷ []) bs)
 
 -- each line's answer, in the state that the lines before it left
-unfoldable pub answers : List (List ℕ) → List ℕ → List ℕ
-answers [] s = []
-answers (line ∷ lines) s = lineAnswer line s .text ++ answers lines (lineAnswer line s .state)
+unfoldable pub linesPrinted : List (List ℕ) → List ℕ → List ℕ
+linesPrinted [] s = []
+linesPrinted (line ∷ lines) s = lineAnswer line s .text ++ linesPrinted lines (lineAnswer line s .state)
 
 -- what the program prints for its whole input, from words s
 abbrev pub printed : List ℕ → List ℕ → List ℕ
-printed input s = answers (linesAfter [] input) s
+printed input s = linesPrinted (linesAfter [] input) s
 
 -- How `feed` goes about it, a byte at a time: what is printed, the line that has begun, and the words. proofs/Whole.antt shows that it
 -- prints the same.
@@ -71,21 +71,21 @@ pub record Run : Type 0 where
   pub state : List ℕ
 
 -- of a line 81 bytes are kept: that it has more than 80 is all that counts then
-abbrev pub kept : List ℕ → ℕ → List ℕ
-kept line b = cond (ltb (length line) 81) (line ++ b ∷ []) line
+abbrev pub keptLine : List ℕ → ℕ → List ℕ
+keptLine line b = cond (ltb (length line) 81) (line ++ b ∷ []) line
 
-abbrev pub after : List ℕ → Run → Run
-after text run = record { text = text ++ run .text; line = run .line; state = run .state }
+abbrev pub textThen : List ℕ → Run → Run
+textThen text run = record { text = text ++ run .text; line = run .line; state = run .state }
 
 -- the bytes, after a line that has begun
 unfoldable pub ran : List ℕ → List ℕ → List ℕ → Run
 ran [] line s = record { text = []; line = line; state = s }
 ran (b ∷ bs) line s =
-    cond (eqb b 10) (after (lineAnswer line s .text) (ran bs [] (lineAnswer line s .state))) (ran bs (kept line b) s)
+    cond (eqb b 10) (textThen (lineAnswer line s .text) (ran bs [] (lineAnswer line s .state))) (ran bs (keptLine line b) s)
 
 -- at the end of the input
-unfoldable pub ended : Run → List ℕ
-ended run = cond (ltb 0 (length (run .line))) (run .text ++ lineAnswer (run .line) (run .state) .text) (run .text)
+unfoldable pub restPrinted : Run → List ℕ
+restPrinted run = cond (ltb 0 (length (run .line))) (run .text ++ lineAnswer (run .line) (run .state) .text) (run .text)
 
 -- bytes for a line, n of which are taken
 pub record Begun (n : ℕ) (line : List ℕ) : Type 0 where

@@ -2,7 +2,7 @@
 ghost use Prim.Native.Nat.{_+_, _≤_};
 ghost use lib.ListN.{length};
 ghost use Rattle.script.specs.Text.{Put};
-ghost use Rattle.runner.specs.Runner.{called, lineAnswer, textOf, Prints};
+ghost use Rattle.runner.specs.Runner.{requestPrinted, lineAnswer, textOf, Prints};
 use controller::Answer;
 use controller::pulse;
 use controller::read_v2_cpu_interface;
@@ -32,7 +32,7 @@ fn put(out: &mut [u8], at: usize, answer: Answer) -> usize
 
 fn answer_request(words: &mut [u32], request: Request, out: &mut [u8], at: usize) -> usize
     requires { ⌜ at + 30 ≤ length (now out) ⌝ }
-    ensures { λ r. ⌜ Prints (called request (now (words .entry))) at (now (words .exit)) (now (out .entry)) (now (out .exit)) r ⌝ }
+    ensures { λ r. ⌜ Prints (requestPrinted request (now (words .entry))) at (now (words .exit)) (now (out .entry)) (now (out .exit)) r ⌝ }
 {
     match request {
         Request::Setup(n) => put(out, at, setup(words, n.count, n.limit)),

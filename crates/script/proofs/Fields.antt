@@ -16,7 +16,7 @@ use Rattle.script.specs.declared.request.Numbers.{Numbers}
 use Rattle.script.specs.declared.request.Numbers.the-variants.{Zero, Other}
 use Rattle.script.specs.declared.request.Request.the-variants.{Unknown}
 use Rattle.script.specs.Request.{withNumber, requestFor}
-use Rattle.script.specs.Line.{isNumber, valueAfter, numberOf, longer, fields, withField, numbersAfter, requestIn}
+use Rattle.script.specs.Line.{isNumber, valueAfter, fieldNumber, longer, fields, withField, numbersAfter, requestIn}
 use Rattle.script.specs.Reading.{firstField, fieldsAfter, parsed, numberAt}
 use Rattle.script.proofs.Digits.{cond-same}
 
@@ -42,7 +42,7 @@ first-inside (b ∷ bs) = go (eqb b 32) (first-inside bs)
 spoilt : (fs : List (List ℕ)) → numbersAfter Other fs ≡ Other
 unfolding numbersAfter
 spoilt [] = refl
-spoilt (f ∷ fs) = go (numberOf f) (spoilt fs)
+spoilt (f ∷ fs) = go (fieldNumber f) (spoilt fs)
   where
     go : (n : Option ℕ) → numbersAfter Other fs ≡ Other → numbersAfter (withField Other n) fs ≡ Other
     go (some n) rest = rest
@@ -57,7 +57,7 @@ module _ (line : List ℕ) (at : ℕ) (space : at < length line) where
 
   module _ (numbers : Numbers) where
     pub numbers-none : numberAt line (at + 1) ≡ NoNumber → numbersAfter numbers (fieldsAfter (drop at line)) ≡ Other
-    unfolding numberAt numbersAfter numberOf
+    unfolding numberAt numbersAfter fieldNumber
     numbers-none e = rw one-field (go (isNumber f) e)
       where
         f : List ℕ
@@ -70,7 +70,7 @@ module _ (line : List ℕ) (at : ℕ) (space : at < length line) where
 
     pub numbers-more : (field : Field) → numberAt line (at + 1) ≡ Parsed field
         → numbersAfter numbers (fieldsAfter (drop at line)) ≡ numbersAfter (withNumber numbers (field .value)) (fieldsAfter (drop (field .next) line))
-    unfolding numberAt numbersAfter numberOf
+    unfolding numberAt numbersAfter fieldNumber
     numbers-more field e = rw one-field (go (isNumber f) e)
       where
         f : List ℕ

@@ -10,7 +10,7 @@ use lib.Dec.{ltb}
 use lib.ListN.{length, set, length-append}
 use lib.Seq.{sets, length-sets}
 use borrow.Author.Tests.{lt-ltb, le-ltb, le-leb, ltb-true, ltb-false}
-use Rattle.script.specs.Line.{isDigit, digitsOnly, valueAfter, isNumber, numberOf}
+use Rattle.script.specs.Line.{isDigit, digitsOnly, valueAfter, isNumber, fieldNumber}
 use Rattle.script.specs.Text.{decimalWithin, decimal, Put}
 
 sets-append : (x y s : List ℕ) (i : ℕ) → sets (sets s i x) (i + length x) y ≡ sets s i (x ++ y)
@@ -137,6 +137,6 @@ unfolding decimal
 decimal-digits n h = says 19 n (omega arith) .digits
 
 -- the text of a number is a number, the same
-pub decimal-read-back : (n : ℕ) → n < 2 ^ 64 → numberOf (decimal n) ≡ some n
-unfolding numberOf isNumber decimal
+pub decimal-read-back : (n : ℕ) → n < 2 ^ 64 → fieldNumber (decimal n) ≡ some n
+unfolding fieldNumber isNumber decimal
 decimal-read-back n h = let it = says 19 n (omega arith) in simp (lt-ltb 0 (length (decimalWithin 20 n)) (it .some-digit), it .digits, it .value, lt-ltb n (2 ^ 64) h)

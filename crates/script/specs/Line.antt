@@ -28,8 +28,8 @@ valueAfter v (b ∷ bs) = valueAfter (10 * v + (b - 48)) bs
 unfoldable pub isNumber : List ℕ → Bool
 isNumber field = ltb 0 (length field) && digitsOnly field && ltb (valueAfter 0 field) (2 ^ 64)
 
-unfoldable pub numberOf : List ℕ → Option ℕ
-numberOf field = cond (isNumber field) (some (valueAfter 0 field)) none
+unfoldable pub fieldNumber : List ℕ → Option ℕ
+fieldNumber field = cond (isNumber field) (some (valueAfter 0 field)) none
 
 -- the bytes of a line between its spaces: one field more than there are spaces
 abbrev pub longer : ℕ → List (List ℕ) → List (List ℕ)
@@ -47,7 +47,7 @@ withField numbers none = Other
 
 unfoldable pub numbersAfter : Numbers → List (List ℕ) → Numbers
 numbersAfter numbers [] = numbers
-numbersAfter numbers (f ∷ fs) = numbersAfter (withField numbers (numberOf f)) fs
+numbersAfter numbers (f ∷ fs) = numbersAfter (withField numbers (fieldNumber f)) fs
 
 -- a letter, and numbers
 unfoldable pub requestIn : List (List ℕ) → Request

@@ -53,20 +53,20 @@ ofFour form other (Four a b c d) = form a b c d
 ofFour form other Other = other
 
 -- `vcpu offset width`; "so does a width field other than 1, 2, 4 or 8"
-abbrev pub readAt : ℕ → ℕ → DecodedWidth → AccessFields
-readAt vcpu offset (Valid width) = Reads (record { vcpu = record { 0 = vcpu }; offset = offset; width = width })
-readAt vcpu offset Reserved = NoAccess
+abbrev pub accessAt : ℕ → ℕ → DecodedWidth → AccessFields
+accessAt vcpu offset (Valid width) = Reads (record { vcpu = record { 0 = vcpu }; offset = offset; width = width })
+accessAt vcpu offset Reserved = NoAccess
 
 abbrev pub accessOf : Numbers → AccessFields
-accessOf = ofThree (λ vcpu offset width. readAt vcpu offset (decodedWidth width)) NoAccess
+accessOf = ofThree (λ vcpu offset width. accessAt vcpu offset (decodedWidth width)) NoAccess
 
 -- `vcpu offset width value`
-abbrev pub writeAt : ℕ → ℕ → DecodedWidth → ℕ → StoreFields
-writeAt vcpu offset (Valid width) value = Writes (record { vcpu = record { 0 = vcpu }; offset = offset; width = width; value = value })
-writeAt vcpu offset Reserved value = NoStore
+abbrev pub storeAt : ℕ → ℕ → DecodedWidth → ℕ → StoreFields
+storeAt vcpu offset (Valid width) value = Writes (record { vcpu = record { 0 = vcpu }; offset = offset; width = width; value = value })
+storeAt vcpu offset Reserved value = NoStore
 
 abbrev pub storeOf : Numbers → StoreFields
-storeOf = ofFour (λ vcpu offset width value. writeAt vcpu offset (decodedWidth width) value) NoStore
+storeOf = ofFour (λ vcpu offset width value. storeAt vcpu offset (decodedWidth width) value) NoStore
 
 abbrev pub asRead : (Access → Request) → AccessFields → Request
 asRead form (Reads access) = form access
@@ -77,8 +77,8 @@ asWrite form (Writes store) = form store
 asWrite form NoStore = Unknown
 
 -- `n count limit`
-abbrev pub setupOf : Numbers → Request
-setupOf = ofTwo (λ count limit. Setup (record { count = count; limit = limit })) Unknown
+abbrev pub setupFor : Numbers → Request
+setupFor = ofTwo (λ count limit. Setup (record { count = count; limit = limit })) Unknown
 
 -- `l vcpu id 0|1`; "so does .. a line level other than 0 or 1"
 abbrev pub levelAt : ℕ → ℕ → ℕ → Request
@@ -95,7 +95,7 @@ pulseOf = ofTwo (λ vcpu number. Pulse (record { vcpu = record { 0 = vcpu }; num
 -- the letters n, d, D, c, C, l, p, by their ASCII codes
 unfoldable pub requestFor : ℕ → Numbers → Request
 requestFor letter numbers =
-    cond (eqb letter 110) (setupOf numbers)
+    cond (eqb letter 110) (setupFor numbers)
     (cond (eqb letter 100) (asRead ReadDistributor (accessOf numbers))
     (cond (eqb letter 68) (asWrite WriteDistributor (storeOf numbers))
     (cond (eqb letter 99) (asRead ReadCpuInterface (accessOf numbers))

@@ -1,7 +1,7 @@
 // What a line asks for, by its letter and the numbers after it.
 ghost use mathlib.Core.Path.{_≡_};
 ghost use Rattle.script.specs.declared.request.Request.the-variants.{ReadDistributor, WriteDistributor, ReadCpuInterface, WriteCpuInterface};
-ghost use Rattle.script.specs.Request.{withNumber, accessOf, storeOf, setupOf, asRead, asWrite, levelOf, pulseOf, requestFor};
+ghost use Rattle.script.specs.Request.{withNumber, accessOf, storeOf, setupFor, asRead, asWrite, levelOf, pulseOf, requestFor};
 use interrupt::GicVcpuId;
 use register::AccessWidth;
 use register::DecodedWidth;
@@ -120,7 +120,7 @@ fn write_fields(numbers: Numbers) -> StoreFields
 }
 
 fn setup(numbers: Numbers) -> Request
-    ensures { λ r. ⌜ r ≡ setupOf numbers ⌝ }
+    ensures { λ r. ⌜ r ≡ setupFor numbers ⌝ }
 {
     let Numbers::Two(count, limit) = numbers else {
         return Request::Unknown;

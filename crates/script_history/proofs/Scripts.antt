@@ -17,10 +17,10 @@ use Rattle.history.proofs.Always.{demand-three}
 use Rattle.script_history.specs.ScriptHistory.{callOf, callsOf, byCall, afterLines}
 
 pub a-line-is-a-call : (line s : List ℕ) → lineAnswer line s ≡ byCall (callOf (requestOf line)) s
-unfolding lineAnswer runner.called
+unfolding lineAnswer runner.requestPrinted
 a-line-is-a-call line s = go (requestOf line)
   where
-    go : (r : Request) → runner.called r s ≡ byCall (callOf r) s
+    go : (r : Request) → runner.requestPrinted r s ≡ byCall (callOf r) s
     go (Setup n) = refl
     go (ReadDistributor d) = refl
     go (WriteDistributor d) = refl
@@ -31,11 +31,11 @@ a-line-is-a-call line s = go (requestOf line)
     go Unknown = refl
 
 pub a-script-is-a-history : (lines : List (List ℕ)) (s : List ℕ) → afterLines lines s ≡ run (callsOf lines) s
-unfolding afterLines callsOf lineAnswer runner.called run
+unfolding afterLines callsOf lineAnswer runner.requestPrinted run
 a-script-is-a-history [] s = refl
 a-script-is-a-history (line ∷ lines) s = a-script-is-a-history lines (lineAnswer line s .state) ∙ go (requestOf line)
   where
-    go : (r : Request) → run (callsOf lines) (runner.called r s .state) ≡ run (callOf r ++ callsOf lines) s
+    go : (r : Request) → run (callsOf lines) (runner.requestPrinted r s .state) ≡ run (callOf r ++ callsOf lines) s
     go (Setup n) = refl
     go (ReadDistributor d) = refl
     go (WriteDistributor d) = refl

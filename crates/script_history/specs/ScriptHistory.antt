@@ -5,7 +5,7 @@ use Rattle.script.specs.declared.request.Request.{Request}
 use Rattle.script.specs.declared.request.Request.the-variants.{Setup, ReadDistributor, WriteDistributor, ReadCpuInterface, WriteCpuInterface, SetLevel, Pulse, Unknown}
 use Rattle.script.specs.Line.{requestOf}
 use Rattle.script.specs.Text.{unknownText}
-use Rattle.runner.specs.Runner.{Printed, answered, lineAnswer}
+use Rattle.runner.specs.Runner.{Printed, outcomePrinted, lineAnswer}
 use Rattle.history.specs.History as history
 use Rattle.history.specs.History.{Call}
 
@@ -26,7 +26,7 @@ callsOf (line ∷ lines) = callOf (requestOf line) ++ callsOf lines
 -- what a line prints and leaves, by its call
 abbrev pub byCall : List Call → List ℕ → Printed
 byCall [] s = record { text = unknownText; state = s }
-byCall (c ∷ cs) s = answered (history.called c s)
+byCall (c ∷ cs) s = outcomePrinted (history.called c s)
 
 -- the words after the lines
 unfoldable pub afterLines : List (List ℕ) → List ℕ → List ℕ

@@ -19,7 +19,7 @@ use Rattle.word.specs.Word.{recordOf}
 use Rattle.select.specs.declared.Selected.{Selected}
 use Rattle.select.specs.declared.Selected.the-variants.{Best, Nothing}
 use Rattle.select.specs.Select.{offered, candidate, entryFor, wins, better, bestBelow, best, Looked}
-use Rattle.select.specs.Keys.{ready, neededOfSpi, keyOf, selectedBy, least, withRecord, leastKey}
+use Rattle.select.specs.Keys.{readyWord, neededOfSpi, keyOf, selectedBy, least, withWord, leastKey}
 use Rattle.select.proofs.Ready.{passes, ready-private, ready-spi}
 
 -- a selection among the numbers below n, of a priority below the mask
@@ -106,13 +106,13 @@ module _ (shape : Shape) (v : ℕ) (s : List ℕ) where
   module _ (needed offset : ℕ) where
     -- the word at `offset + n` is the record of the number n, and the bits `needed` are those that it takes
     abbrev Tested : ℕ → Type 0
-    Tested n = (place shape (recordSlot v n) ≡ offset + n) × ((w : ℕ) → ready needed w ≡ passes (offered v n (recordOf w)) (recordOf w))
+    Tested n = (place shape (recordSlot v n) ≡ offset + n) × ((w : ℕ) → readyWord needed w ≡ passes (offered v n (recordOf w)) (recordOf w))
 
     -- the word at its place
-    at-place : (n k so-far : ℕ) → place shape (recordSlot v n) ≡ k → withRecord needed n (getD s k 0) so-far ≡ withRecord needed n (wordAt shape (recordSlot v n) s) so-far
-    at-place n k so-far p = ap (λ (x : ℕ). withRecord needed n (getD s x 0) so-far) (sym p)
+    at-place : (n k so-far : ℕ) → place shape (recordSlot v n) ≡ k → withWord needed n (getD s k 0) so-far ≡ withWord needed n (wordAt shape (recordSlot v n) s) so-far
+    at-place n k so-far p = ap (λ (x : ℕ). withWord needed n (getD s x 0) so-far) (sym p)
 
-    record-step : (n : ℕ) → n < 1020 → Tested n → withRecord needed n (getD s (offset + n) 0) (best-key n) ≡ best-key (suc n)
+    record-step : (n : ℕ) → n < 1020 → Tested n → withWord needed n (getD s (offset + n) 0) (best-key n) ≡ best-key (suc n)
     unfolding recordOf
     record-step n h t =
         let x = bestBelow shape v s n in
@@ -127,7 +127,7 @@ module _ (shape : Shape) (v : ℕ) (s : List ℕ) where
     unfolding leastKey
     key-run first zero h tested = rw add-zero
     key-run first (suc i) h tested =
-        ap (withRecord needed (first + i) (getD s (offset + (first + i)) 0)) (key-run first i (omega arith) (λ j b. tested j (omega arith)))
+        ap (withWord needed (first + i) (getD s (offset + (first + i)) 0)) (key-run first i (omega arith) (λ j b. tested j (omega arith)))
         ∙ record-step (first + i) (omega arith) (tested i (omega arith))
         ∙ ap best-key (sym (add-suc first i))
 

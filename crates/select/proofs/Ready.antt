@@ -13,7 +13,7 @@ use Rattle.word.specs.Fields.{field}
 use Rattle.word.specs.Word.{flag, maskOf, recordOf, maskByte}
 use Rattle.state.specs.Loop.{everyBelow}
 use Rattle.state.proofs.Tests.{every-at}
-use Rattle.select.specs.Keys.{ready, neededOfSpi}
+use Rattle.select.specs.Keys.{readyWord, neededOfSpi}
 
 -- a record that passes but for its priority
 abbrev pub passes : Bool → InterruptRecord → Bool
@@ -47,7 +47,7 @@ three-bits : everyBelow three-alike 8 ≡ true
 unfolding everyBelow
 three-bits = refl
 
-pub ready-private : (w : ℕ) → ready 3 w ≡ passes true (recordOf w)
+pub ready-private : (w : ℕ) → readyWord 3 w ≡ passes true (recordOf w)
 unfolding recordOf
 ready-private w =
     ap (λ (x : ℕ). eqb x 3) (and-mask w 3)
@@ -104,7 +104,7 @@ named : (set : Bool) (byte v b : ℕ) (f : Bool) → byte / 2 ^ v % 2 ≡ b → 
 named true byte v b f e = ap (λ (x : ℕ). eqb x 1 && f) (sym e)
 named false byte v b f e = rw zero-div (none-after (eqb b 1))
 
-pub ready-spi : (v w : ℕ) → v < 8 → ready (neededOfSpi v) w ≡ passes (eqb (maskByte (recordOf w .«cpu_target_mask») / 2 ^ v % 2) 1) (recordOf w)
+pub ready-spi : (v w : ℕ) → v < 8 → readyWord (neededOfSpi v) w ≡ passes (eqb (maskByte (recordOf w .«cpu_target_mask») / 2 ^ v % 2) 1) (recordOf w)
 unfolding recordOf
 ready-spi v w h =
     let t : ℕ = 2 ^ (8 + v) in

@@ -10,8 +10,8 @@ use Rattle.select.specs.declared.Selected.{Selected}
 use Rattle.select.specs.declared.Selected.the-variants.{Best, Nothing}
 
 -- a word with all of the bits `needed`, and without the bit of an active record
-abbrev pub ready : ℕ → ℕ → Bool
-ready needed w = eqb (bitAnd w (needed + 4)) needed
+abbrev pub readyWord : ℕ → ℕ → Bool
+readyWord needed w = eqb (bitAnd w (needed + 4)) needed
 
 -- the bits of an SPI for the vCPU v: enabled, pending, its mask set and v in the mask
 abbrev pub neededOfSpi : ℕ → ℕ
@@ -30,13 +30,13 @@ abbrev pub least : ℕ → ℕ → ℕ
 least a b = cond (ltb a b) a b
 
 -- one record more: the word w of the number n
-abbrev pub withRecord : ℕ → ℕ → ℕ → ℕ → ℕ
-withRecord needed n w so-far = cond (ready needed w) (least (1024 * (w / 256 % 256) + n) so-far) so-far
+abbrev pub withWord : ℕ → ℕ → ℕ → ℕ → ℕ
+withWord needed n w so-far = cond (readyWord needed w) (least (1024 * (w / 256 % 256) + n) so-far) so-far
 
 -- the least of `start` and the keys of the i numbers from `first` up
 unfoldable pub leastKey : ℕ → ℕ → ℕ → List ℕ → ℕ → ℕ → ℕ
 leastKey needed offset first s start zero = start
-leastKey needed offset first s start (suc i) = withRecord needed (first + i) (getD s (offset + (first + i)) 0) (leastKey needed offset first s start i)
+leastKey needed offset first s start (suc i) = withWord needed (first + i) (getD s (offset + (first + i)) 0) (leastKey needed offset first s start i)
 
 pub record KeyRun (needed offset first end : ℕ) (s : List ℕ) : Type 0 where
   pub bits : needed < 2 ^ 24

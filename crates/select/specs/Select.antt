@@ -51,12 +51,12 @@ abbrev pub bothOn : Shape → ℕ → List ℕ → Bool
 bothOn shape v s = enabledAt shape s && eqb (interfaceAt shape v Control s % 2) 1
 
 -- "HPPIR gives the best, without an SGI's source; 1023 if there is none or Distributor or interface is off"
-abbrev pub numberOf : Selected → ℕ
-numberOf Nothing = 1023
-numberOf (Best e) = e .intid .0
+abbrev pub selectedNumber : Selected → ℕ
+selectedNumber Nothing = 1023
+selectedNumber (Best e) = e .intid .0
 
 unfoldable pub highestPending : Shape → ℕ → List ℕ → ℕ
-highestPending shape v s = cond (bothOn shape v s) (numberOf (best shape v s)) 1023
+highestPending shape v s = cond (bothOn shape v s) (selectedNumber (best shape v s)) 1023
 
 -- words that hold a state with this vCPU
 pub record Looked (shape : Shape) (v : ℕ) (s : List ℕ) : Type 0 where

@@ -3,8 +3,8 @@ ghost use mathlib.Core.Path.{_≡_};
 ghost use Prim.Native.Nat.{_<_, _-_};
 ghost use Rattle.state.specs.declared.layout.InterfaceValue.the-variants.{PriorityMask};
 ghost use Rattle.state.specs.Words.{interfaceAt};
-ghost use Rattle.select.specs.Select.{best, bothOn, numberOf, highestPending, Looked};
-ghost use Rattle.select.specs.Keys.{selectedBy, neededOfSpi, ready, least, withRecord, leastKey, KeyRun};
+ghost use Rattle.select.specs.Select.{best, bothOn, selectedNumber, highestPending, Looked};
+ghost use Rattle.select.specs.Keys.{selectedBy, neededOfSpi, readyWord, least, withWord, leastKey, KeyRun};
 use interrupt::GicVcpuId;
 use interrupt::IntId;
 use interrupt::Priority;
@@ -40,7 +40,7 @@ fn needed_of_spi(vcpu: GicVcpuId) -> u32
 
 fn is_ready(word: u32, needed: u32) -> bool
     requires { ⌜ needed < 16777216 ⌝ }
-    ensures { λ r. ⌜ r ≡ ready needed word ⌝ }
+    ensures { λ r. ⌜ r ≡ readyWord needed word ⌝ }
 {
     // All bits that are needed, and not the one of an active record.
     (word & (needed + ACTIVE)) == needed
@@ -55,7 +55,7 @@ fn least(a: u32, b: u32) -> u32
 // A key is the priority with the number below it: the least is the smallest priority's, then the smallest number's.
 fn with_record(word: u32, intid: IntId, needed: u32, so_far: u32) -> u32
     requires { ⌜ (needed < 16777216) × (intid .0 < 1020) ⌝ }
-    ensures { λ r. ⌜ r ≡ withRecord needed (intid .0) word «so_far» ⌝ }
+    ensures { λ r. ⌜ r ≡ withWord needed (intid .0) word «so_far» ⌝ }
 {
     if is_ready(word, needed) {
         least(1024 * (word / 256 % 256) + intid.0, so_far)
@@ -126,7 +126,7 @@ pub fn both_enabled(words: &[u32], shape: Shape, vcpu: GicVcpuId) -> bool
 
 impl Selected {
     fn number(self) -> IntId
-        ensures { λ r. ⌜ r .0 ≡ numberOf self ⌝ }
+        ensures { λ r. ⌜ r .0 ≡ selectedNumber self ⌝ }
     {
         match self {
             Selected::Best(entry) => entry.intid,

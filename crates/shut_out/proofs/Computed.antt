@@ -9,10 +9,10 @@ use Rattle.register.specs.declared.frame.AccessWidth.the-variants.{Dword}
 use Rattle.state.specs.Lent.{shaped}
 use Rattle.state.proofs.Tests.{left-true, right-true}
 use Rattle.answer.specs.Answer.{Outcome, gave}
-use Rattle.history.specs.History.{Call, Setup, ReadDistributor, WriteDistributor, WriteCpuInterface, called}
+use Rattle.history.specs.History.{Call, Setup, ReadDistributor, WriteDistributor, WriteCpuInterface, called, iarRead}
 use Rattle.corners.specs.Corners.{zeros}
 use Rattle.corners.proofs.Started.{started, setup-started, computing}
-use Rattle.shut_out.specs.ShutOut.{Behaviour, admitted, Meets, ran, History, after, Frame, Distributor, CpuInterface, Access, read, write, Refuser, ReadsNothing, IgnoresWrites, acknowledge, given, OneShot}
+use Rattle.shut_out.specs.ShutOut.{Behaviour, admitted, Meets, behaved, History, wordsAfter, Frame, Distributor, CpuInterface, Access, readCall, writeCall, Refuser, ReadsNothing, IgnoresWrites, gaveNumber, OneShot}
 
 -- the calls of a row and then one more are such as the types admit
 abbrev allAdmitted : List Call → Call → List ℕ → Bool
@@ -20,8 +20,8 @@ allAdmitted [] c s = admitted c s
 allAdmitted (d ∷ cs) c s = admitted d s && allAdmitted cs c (called d s .state)
 
 -- who keeps the promises answers that one as they say
-promised : (f : Behaviour) → Meets f → (cs : List Call) (c : Call) (s : List ℕ) → allAdmitted cs c s ≡ true → f c (ran f cs s) ≡ called c (ran called cs s)
-unfolding ran
+promised : (f : Behaviour) → Meets f → (cs : List Call) (c : Call) (s : List ℕ) → allAdmitted cs c s ≡ true → f c (behaved f cs s) ≡ called c (behaved called cs s)
+unfolding behaved
 promised f m [] c s p = m c s p
 promised f m (d ∷ cs) c s p =
     let rest : Bool = allAdmitted cs c (called d s .state) in
@@ -41,40 +41,40 @@ set-up : (f : Behaviour) → Meets f → f (Setup 1 32) words ≡ gave 0 begun
 unfolding zeros
 set-up f m = m (Setup 1 32) words refl ∙ setup-started 1 32 words refl refl
 
-from-setup : (f : Behaviour) → Meets f → (cs : List Call) (c : Call) → allAdmitted cs c begun ≡ true → f c (after f (history cs)) ≡ called c (ran called cs begun)
-unfolding ran
+from-setup : (f : Behaviour) → Meets f → (cs : List Call) (c : Call) → allAdmitted cs c begun ≡ true → f c (wordsAfter f (history cs)) ≡ called c (behaved called cs begun)
+unfolding behaved
 from-setup f m cs c p = rw (set-up f m) (promised f m cs c begun p)
 
 typer : Call
 typer = ReadDistributor 0 0x004 Dword
 
 pub no-refuser : (f : Behaviour) → Meets f → Refuser f → ⊥
-unfolding ran typer zeros computing
+unfolding behaved typer zeros computing
 no-refuser f m k = k (history []) typer refl (ap (λ (o : Outcome). o .refusal) (from-setup f m [] typer refl))
 
 -- CTLR of either frame, which keeps a 1
 control : Access
 control = record { vcpu = 0; offset = 0; width = Dword }
 
-kept : (f : Behaviour) → Meets f → (frame : Frame) → f (read frame control) (after f (history (write frame control 1 ∷ []))) .value ≡ 1
-unfolding ran control zeros computing
-kept f m Distributor = ap (λ (o : Outcome). o .value) (from-setup f m (write Distributor control 1 ∷ []) (read Distributor control) refl)
-kept f m CpuInterface = ap (λ (o : Outcome). o .value) (from-setup f m (write CpuInterface control 1 ∷ []) (read CpuInterface control) refl)
+kept : (f : Behaviour) → Meets f → (frame : Frame) → f (readCall frame control) (wordsAfter f (history (writeCall frame control 1 ∷ []))) .value ≡ 1
+unfolding behaved control zeros computing
+kept f m Distributor = ap (λ (o : Outcome). o .value) (from-setup f m (writeCall Distributor control 1 ∷ []) (readCall Distributor control) refl)
+kept f m CpuInterface = ap (λ (o : Outcome). o .value) (from-setup f m (writeCall CpuInterface control 1 ∷ []) (readCall CpuInterface control) refl)
 
-cleared : (f : Behaviour) → Meets f → (frame : Frame) → f (read frame control) (after f (history [])) .value ≡ 0
-unfolding ran control zeros computing
-cleared f m Distributor = ap (λ (o : Outcome). o .value) (from-setup f m [] (read Distributor control) refl)
-cleared f m CpuInterface = ap (λ (o : Outcome). o .value) (from-setup f m [] (read CpuInterface control) refl)
+cleared : (f : Behaviour) → Meets f → (frame : Frame) → f (readCall frame control) (wordsAfter f (history [])) .value ≡ 0
+unfolding behaved control zeros computing
+cleared f m Distributor = ap (λ (o : Outcome). o .value) (from-setup f m [] (readCall Distributor control) refl)
+cleared f m CpuInterface = ap (λ (o : Outcome). o .value) (from-setup f m [] (readCall CpuInterface control) refl)
 
 neither : (x : ℕ) → x ≡ 1 → (x ≡ 0) ⊎ (x ≡ 1023) → ⊥
 neither x p (inl e) = omega (arith, p, e)
 neither x p (inr e) = omega (arith, p, e)
 
 pub no-constant-reader : (frame : Frame) (f : Behaviour) → Meets f → ReadsNothing frame f → ⊥
-no-constant-reader frame f m k = neither _ (kept f m frame) (k (history (write frame control 1 ∷ [])) control)
+no-constant-reader frame f m k = neither _ (kept f m frame) (k (history (writeCall frame control 1 ∷ [])) control)
 
 pub no-deaf-controller : (frame : Frame) (f : Behaviour) → Meets f → IgnoresWrites frame f → ⊥
-unfolding ran
+unfolding behaved
 no-deaf-controller frame f m k = differ (sym (kept f m frame) ∙ k (history []) control control 1 ∙ cleared f m frame)
   where
     differ : _≡_ {A = ℕ} 1 0 → ⊥
@@ -96,22 +96,22 @@ between : List Call
 between = WriteCpuInterface 0 0x10 Dword 5 ∷ ring ∷ []
 
 abbrev first : Outcome
-first = called (acknowledge 0) (ran called before begun)
+first = called (iarRead 0) (behaved called before begun)
 
 abbrev second : Outcome
-second = called (acknowledge 0) (ran called between (first .state))
+second = called (iarRead 0) (behaved called between (first .state))
 
-first-given : given first ≡ true
-unfolding ran ring before zeros computing
+first-given : gaveNumber first ≡ true
+unfolding behaved ring before zeros computing
 first-given = refl
 
-second-given : given second ≡ true
-unfolding ran ring before between zeros computing
+second-given : gaveNumber second ≡ true
+unfolding behaved ring before between zeros computing
 second-given = refl
 
 pub no-one-shot : (f : Behaviour) → Meets f → OneShot f → ⊥
-unfolding ran ring before between zeros computing
+unfolding behaved ring before between zeros computing
 no-one-shot f m k =
-    let e : f (acknowledge 0) (after f (history before)) ≡ first = from-setup f m before (acknowledge 0) refl in
-    let d : f (acknowledge 0) (ran f between (first .state)) ≡ second = promised f m between (acknowledge 0) (first .state) refl in
-    true≢false (sym (ap given d ∙ second-given) ∙ (rw e at (k (history before) 0 between (ap given e ∙ first-given) refl)))
+    let e : f (iarRead 0) (wordsAfter f (history before)) ≡ first = from-setup f m before (iarRead 0) refl in
+    let d : f (iarRead 0) (behaved f between (first .state)) ≡ second = promised f m between (iarRead 0) (first .state) refl in
+    true≢false (sym (ap gaveNumber d ∙ second-given) ∙ (rw e at (k (history before) 0 between (ap gaveNumber e ∙ first-given) refl)))

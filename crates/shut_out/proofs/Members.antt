@@ -8,8 +8,8 @@ use Prim.Native.Nat.{ℕ}
 use native.Mathlib.Omega.{arith}
 use Rattle.register.specs.declared.frame.Refusal.the-variants.{BrokenState}
 use Rattle.answer.specs.Answer.{Outcome, refused, gave}
-use Rattle.history.specs.History.{Call, Setup, ReadDistributor, WriteDistributor, ReadCpuInterface, WriteCpuInterface, SetLevel, Pulse, called, noSetup}
-use Rattle.shut_out.specs.ShutOut.{Behaviour, Meets, ran, after, Frame, Access, read, write, Refuser, ReadsNothing, IgnoresWrites, acknowledge, given, OneShot}
+use Rattle.history.specs.History.{Call, Setup, ReadDistributor, WriteDistributor, ReadCpuInterface, WriteCpuInterface, SetLevel, Pulse, called, noSetup, iarRead}
+use Rattle.shut_out.specs.ShutOut.{Behaviour, Meets, behaved, wordsAfter, Frame, Access, readCall, writeCall, Refuser, ReadsNothing, IgnoresWrites, gaveNumber, OneShot}
 
 pub one-meets : Meets called
 one-meets c s p = refl
@@ -28,8 +28,8 @@ pub a-deaf-controller : (frame : Frame) → IgnoresWrites frame refuses
 a-deaf-controller frame h a b value = refl
 
 -- one whose writes leave the words as they were ignores them, whatever it answers
-pub unchanged-ignores : (frame : Frame) (f : Behaviour) → ((a : Access) (value : ℕ) (s : List ℕ) → f (write frame a value) s .state ≡ s) → IgnoresWrites frame f
-unchanged-ignores frame f k h a b value = ap (λ (s : List ℕ). f (read frame b) s .value) (k a value (after f h))
+pub unchanged-ignores : (frame : Frame) (f : Behaviour) → ((a : Access) (value : ℕ) (s : List ℕ) → f (writeCall frame a value) s .state ≡ s) → IgnoresWrites frame f
+unchanged-ignores frame f k h a b value = ap (λ (s : List ℕ). f (readCall frame b) s .value) (k a value (wordsAfter f h))
 
 -- one that gives SGI 5 while it has a word, which setup leaves it and an acknowledge takes away
 abbrev acknowledges : List ℕ → Outcome
@@ -45,8 +45,8 @@ once (WriteCpuInterface v offset width value) s = gave 0 s
 once (SetLevel v n asserted) s = gave 0 s
 once (Pulse v n) s = gave 0 s
 
-stays-empty : (cs : List Call) → noSetup cs ≡ true → ran once cs [] ≡ []
-unfolding ran
+stays-empty : (cs : List Call) → noSetup cs ≡ true → behaved once cs [] ≡ []
+unfolding behaved
 stays-empty [] p = refl
 stays-empty (Setup count limit ∷ cs) p = absurd (false≢true p)
 stays-empty (ReadDistributor v offset width ∷ cs) p = stays-empty cs p
@@ -61,8 +61,8 @@ emptied [] = refl
 emptied (x ∷ s) = refl
 
 pub a-one-shot : OneShot once
-a-one-shot h v later p q = simp (emptied (after once h), stays-empty later q)
+a-one-shot h v later p q = simp (emptied (wordsAfter once h), stays-empty later q)
 
-pub gives-the-first : (count limit v : ℕ) (s : List ℕ) → given (once (acknowledge v) (after once (record { count = count; limit = limit; lent = s; calls = [] }))) ≡ true
-unfolding ran
+pub gives-the-first : (count limit v : ℕ) (s : List ℕ) → gaveNumber (once (iarRead v) (wordsAfter once (record { count = count; limit = limit; lent = s; calls = [] }))) ≡ true
+unfolding behaved
 gives-the-first count limit v s = refl

@@ -8,9 +8,8 @@ use mathlib.Core.Logic.{_⊎_}
 use Prim.Native.Nat.{ℕ, _^_}
 use lib.Dec.{eqb, ltb}
 use Rattle.register.specs.declared.frame.AccessWidth.{AccessWidth}
-use Rattle.register.specs.declared.frame.AccessWidth.the-variants.{Dword}
 use Rattle.answer.specs.Answer.{Outcome}
-use Rattle.history.specs.History.{Call, Setup, ReadDistributor, WriteDistributor, ReadCpuInterface, WriteCpuInterface, SetLevel, Pulse, isSetup, called, noSetup}
+use Rattle.history.specs.History.{Call, Setup, ReadDistributor, WriteDistributor, ReadCpuInterface, WriteCpuInterface, SetLevel, Pulse, isSetup, called, noSetup, iarRead}
 
 -- some controller: what it does with a call and lent words
 abbrev pub Behaviour : Type 0
@@ -38,9 +37,9 @@ abbrev pub Meets : Behaviour → Type 0
 Meets f = (c : Call) (s : List ℕ) → admitted c s ≡ true → f c s ≡ called c s
 
 -- the words that it leaves, call after call
-unfoldable pub ran : Behaviour → List Call → List ℕ → List ℕ
-ran f [] s = s
-ran f (c ∷ cs) s = ran f cs (f c s .state)
+unfoldable pub behaved : Behaviour → List Call → List ℕ → List ℕ
+behaved f [] s = s
+behaved f (c ∷ cs) s = behaved f cs (f c s .state)
 
 -- a history: a setup in lent words, and calls after it
 pub record History : Type 0 where
@@ -49,8 +48,8 @@ pub record History : Type 0 where
   pub lent : List ℕ
   pub calls : List Call
 
-abbrev pub after : Behaviour → History → List ℕ
-after f h = ran f (Setup (h .count) (h .limit) ∷ h .calls) (h .lent)
+abbrev pub wordsAfter : Behaviour → History → List ℕ
+wordsAfter f h = behaved f (Setup (h .count) (h .limit) ∷ h .calls) (h .lent)
 
 -- an access to either frame
 pub data Frame : Type 0 where
@@ -62,40 +61,37 @@ pub record Access : Type 0 where
   pub offset : ℕ
   pub width : AccessWidth
 
-abbrev pub read : Frame → Access → Call
-read Distributor a = ReadDistributor (a .vcpu) (a .offset) (a .width)
-read CpuInterface a = ReadCpuInterface (a .vcpu) (a .offset) (a .width)
+abbrev pub readCall : Frame → Access → Call
+readCall Distributor a = ReadDistributor (a .vcpu) (a .offset) (a .width)
+readCall CpuInterface a = ReadCpuInterface (a .vcpu) (a .offset) (a .width)
 
-abbrev pub write : Frame → Access → ℕ → Call
-write Distributor a value = WriteDistributor (a .vcpu) (a .offset) (a .width) value
-write CpuInterface a value = WriteCpuInterface (a .vcpu) (a .offset) (a .width) value
+abbrev pub writeCall : Frame → Access → ℕ → Call
+writeCall Distributor a value = WriteDistributor (a .vcpu) (a .offset) (a .width) value
+writeCall CpuInterface a value = WriteCpuInterface (a .vcpu) (a .offset) (a .width) value
 
 -- "refuses everything": it may accept setups
 abbrev pub Refuser : Behaviour → Type 0
-Refuser f = (h : History) (c : Call) → isSetup c ≡ false → f c (after f h) .refusal ≡ 0 → ⊥
+Refuser f = (h : History) (c : Call) → isSetup c ≡ false → f c (wordsAfter f h) .refusal ≡ 0 → ⊥
 
 -- "reads 1023 or 0 everywhere": one frame is enough
 abbrev pub ReadsNothing : Frame → Behaviour → Type 0
-ReadsNothing frame f = (h : History) (a : Access) → let value : ℕ = f (read frame a) (after f h) .value in (value ≡ 0) ⊎ (value ≡ 1023)
+ReadsNothing frame f = (h : History) (a : Access) → let value : ℕ = f (readCall frame a) (wordsAfter f h) .value in (value ≡ 0) ⊎ (value ≡ 1023)
 
 -- "ignores writes": in one frame a read has the same value after a write as without it, whatever becomes of the words
 abbrev pub IgnoresWrites : Frame → Behaviour → Type 0
 IgnoresWrites frame f =
     (h : History) (a b : Access) (value : ℕ)
-    → f (read frame b) (f (write frame a value) (after f h) .state) .value
-    ≡ f (read frame b) (after f h) .value
+    → f (readCall frame b) (f (writeCall frame a value) (wordsAfter f h) .state) .value
+    ≡ f (readCall frame b) (wordsAfter f h) .value
 
 -- an acknowledge is a read of IAR, and gives an interrupt if it is not refused and is not 1023
-abbrev pub acknowledge : ℕ → Call
-acknowledge v = ReadCpuInterface v 0x0c Dword
-
-abbrev pub given : Outcome → Bool
-given o = eqb (o .refusal) 0 && not (eqb (o .value) 1023)
+abbrev pub gaveNumber : Outcome → Bool
+gaveNumber o = eqb (o .refusal) 0 && not (eqb (o .value) 1023)
 
 -- "acknowledges the first interrupt properly and answers 1023 ever after": a vCPU that was given one is given none until a setup
 abbrev pub OneShot : Behaviour → Type 0
 OneShot f =
     (h : History) (v : ℕ) (later : List Call)
-    → let first : Outcome = f (acknowledge v) (after f h) in given first ≡ true
+    → let first : Outcome = f (iarRead v) (wordsAfter f h) in gaveNumber first ≡ true
     → noSetup later ≡ true
-    → given (f (acknowledge v) (ran f later (first .state))) ≡ false
+    → gaveNumber (f (iarRead v) (behaved f later (first .state))) ≡ false

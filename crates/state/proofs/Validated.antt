@@ -16,7 +16,7 @@ use Rattle.state.specs.declared.lent.Lent.the-variants.{Sound, Broken}
 use Rattle.state.specs.Layout.{Interface, size, Limits}
 use Rattle.state.specs.Loop.{everyBelow}
 use Rattle.state.specs.Words.{wordAt}
-use Rattle.state.specs.Lent.{inLimits, shaped, limited, storedShape, depthFits, held, validated, Held}
+use Rattle.state.specs.Lent.{inLimits, shaped, limited, storedShape, depthFits, lentAs, validated, Held}
 use Rattle.state.proofs.Tests.{left-true, right-true, every-at, every-true}
 
 -- a limit of 0 is no limit
@@ -63,7 +63,7 @@ limits-limited shape l =
 pub validated-within : (s : List ℕ) (t : Shape) → storedShape s ≡ Within t
     → validated s ≡ cond (leb (size t) (length s) && everyBelow (depthFits t s) (t .count)) (Sound t) Broken
 unfolding validated
-validated-within s t e = ap (held s) e
+validated-within s t e = ap (lentAs s) e
 
 -- words that pass hold a state whose depths fit ..
 pub validated-held : (s : List ℕ) (shape : Shape) → validated s ≡ Sound shape → Held shape s
@@ -80,7 +80,7 @@ validated-held s shape = from (storedShape s) refl
     tested t true false p q e w = let z : _≡_ {A = ℕ} 0 1 = cc in absurd (omega arith)
     tested t false c p q e w = let z : _≡_ {A = ℕ} 0 1 = cc in absurd (omega arith)
 
-    from : (l : Limited) → storedShape s ≡ l → held s l ≡ Sound shape → Held shape s
+    from : (l : Limited) → storedShape s ≡ l → lentAs s l ≡ Sound shape → Held shape s
     from (Within t) w e = tested t (leb (size t) (length s)) (everyBelow (depthFits t s) (t .count)) refl refl e w
     from Outside w e = let z : _≡_ {A = ℕ} 0 1 = cc in absurd (omega arith)
 

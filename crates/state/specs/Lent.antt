@@ -33,12 +33,12 @@ storedShape s = limited (getD s 0 0) (getD s 1 0)
 abbrev pub depthFits : Shape → List ℕ → ℕ → Bool
 depthFits shape s v = leb (wordAt shape (Interface v Depth) s) 255
 
-abbrev pub held : List ℕ → Limited → Lent
-held s Outside = Broken
-held s (Within shape) = cond (leb (size shape) (length s) && everyBelow (depthFits shape s) (shape .count)) (Sound shape) Broken
+abbrev pub lentAs : List ℕ → Limited → Lent
+lentAs s Outside = Broken
+lentAs s (Within shape) = cond (leb (size shape) (length s) && everyBelow (depthFits shape s) (shape .count)) (Sound shape) Broken
 
 unfoldable pub validated : List ℕ → Lent
-validated s = held s (storedShape s)
+validated s = lentAs s (storedShape s)
 
 -- what it is to pass the test
 pub record Held (shape : Shape) (s : List ℕ) : Type 0 where

@@ -101,8 +101,8 @@ CanonicalWord Limit w = Unit
 CanonicalWord DistributorControl w = w < 2
 CanonicalWord (Interface v k) w = kept k w ≡ w
 CanonicalWord (Sources v n) w = w < 256
-CanonicalWord (Private v n) w = Rattle.word.specs.Word.Canonical w
-CanonicalWord (Spi n) w = Rattle.word.specs.Word.Canonical w
+CanonicalWord (Private v n) w = Rattle.word.specs.Word.CanonicalRecord w
+CanonicalWord (Spi n) w = Rattle.word.specs.Word.CanonicalRecord w
 CanonicalWord (Stack v i) w = w < 2 ^ 18
 
 -- a state as we write it: each word is, and what lies past the newest entry of a stack is cleared

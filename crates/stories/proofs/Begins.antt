@@ -15,10 +15,10 @@ use Rattle.answer.specs.Answer.{Outcome}
 use Rattle.lawful.specs.Lawful.{Controls}
 use Rattle.moves.specs.Moves as moves
 use Rattle.moves.proofs.Controllers.{changed-record}
-use Rattle.history.specs.History.{Pulse, called}
+use Rattle.history.specs.History.{Pulse, called, sgirWrite}
 use Rattle.waiting.specs.Waiting.{bit, rung, pends}
 use Rattle.waiting.proofs.BitLaws.{bit-or}
-use Rattle.stories.specs.Stories.{ring, Rings}
+use Rattle.stories.specs.Stories.{Rings}
 use Rattle.stories.proofs.Calls.{ring-call, pulse-call}
 use Rattle.stories.proofs.Events.{rung-sources}
 
@@ -27,7 +27,7 @@ unfolding everyBelow
 own-bit u b = every-at (λ i. bit i (2 ^ i)) 8 u refl b
 
 pub a-ring-is-set : (shape : Shape) (t n u value : ℕ) (s : List ℕ) → Controls shape s → t < shape .count → u < shape .count → n < 16 → Rings u value t n
-    → rung shape t n u (called (ring u value) s .state) ≡ true
+    → rung shape t n u (called (sgirWrite u value) s .state) ≡ true
 a-ring-is-set shape t n u value s h exists sender sgi rings =
     ap (λ (o : Outcome). rung shape t n u (o .state)) (ring-call shape s h u value t sender (rings .named))
     ∙ ap (bit u) (rung-sources shape t n u (value % 2 ^ 32) s (h .lawful .in-range .state) exists sgi few (rings .numbered) (rings .named) ∙ or-comm (sourcesAt shape t n s) (2 ^ u))

@@ -33,10 +33,9 @@ use Rattle.cpu_interface_frame.specs.CpuInterfaceFrame.{readAnswer, readV2CpuIn
 use Rattle.input.specs.declared.Signal.the-variants.{Edge}
 use Rattle.lawful.specs.Lawful.{Controls}
 use Rattle.wake.specs.Wake.{isSpurious}
-use Rattle.history.specs.History.{Pulse, called}
+use Rattle.history.specs.History.{Pulse, called, sgirWrite, iarRead, eoirWrite, dirWrite}
 use Rattle.history.proofs.Each.{valid}
 use Rattle.waiting.proofs.Accepted.{input-call, write-call}
-use Rattle.stories.specs.Stories.{ring, acknowledge, end, deactivate}
 
 -- where the registers are
 iar-at : locateCpuInterface 0x0c Dword ≡ interface.At Iar
@@ -67,7 +66,7 @@ unfolding decoded
 decoded-valid n below = simp (lt-ltb n 1020 below)
 
 module _ (shape : Shape) (s : List ℕ) (h : Controls shape s) (v : ℕ) where
-  pub acknowledge-call : v < shape .count → called (acknowledge v) s ≡ readAnswer (acknowledge-of.acknowledge shape v s) s (acknowledge-of.acknowledged shape v s)
+  pub acknowledge-call : v < shape .count → called (iarRead v) s ≡ readAnswer (acknowledge-of.acknowledge shape v s) s (acknowledge-of.acknowledged shape v s)
   unfolding readV2CpuInterface
   acknowledge-call exists = simp (valid shape s h, iar-at, found (enabledAt shape s) shape v (λ e. exists))
 
@@ -82,22 +81,22 @@ module _ (shape : Shape) (s : List ℕ) (h : Controls shape s) (v : ℕ) where
     number : end-of.decodedEoi (n % 2 ^ 32) ≡ Valid (record { 0 = n })
     number = ap decoded low ∙ decoded-valid n below
 
-    pub end-call : called (end v n) s ≡ went shape (end-of.endRetired shape v n s) s (end-of.ended shape v n s)
+    pub end-call : called (eoirWrite v n) s ≡ went shape (end-of.endRetired shape v n s) s (end-of.ended shape v n s)
     unfolding writeV2CpuInterface
     end-call = simp (valid shape s h, eoir-at, decodes, found true shape v (λ q. exists), number)
 
-    pub deactivate-call : called (deactivate v n) s ≡ went shape (end-of.retired shape v n s) s (end-of.deactivated shape v n s)
+    pub deactivate-call : called (dirWrite v n) s ≡ went shape (end-of.retired shape v n s) s (end-of.deactivated shape v n s)
     unfolding writeV2CpuInterface
     deactivate-call = simp (valid shape s h, dir-at, decodes, found true shape v (λ q. exists), number)
 
-  pub ring-call : (value t : ℕ) → v < shape .count → includes (sgiTarget (value % 2 ^ 32)) v t ≡ true → called (ring v value) s ≡ went shape 1023 s (writeSgir shape v (value % 2 ^ 32) s)
+  pub ring-call : (value t : ℕ) → v < shape .count → includes (sgiTarget (value % 2 ^ 32)) v t ≡ true → called (sgirWrite v value) s ≡ went shape 1023 s (writeSgir shape v (value % 2 ^ 32) s)
   ring-call value t exists e = write-call shape s h v 0xf00 Dword value (plain Sgir) sgir-at (λ q. exists) ∙ simp (named (sgiTarget (value % 2 ^ 32)) v t e)
 
   pub pulse-call : (n : ℕ) → RecordThere shape v n → 16 ≤ n → called (Pulse v n) s ≡ went shape 1023 s (changed shape v n record-of.pulse s)
   pulse-call = input-call shape s h v Edge
 
   -- who would be answered 1023 is quiet
-  pub asleep-quiet : v < shape .count → called (acknowledge v) s .value ≡ 1023 → isSpurious (acknowledge-of.acknowledge shape v s) ≡ true
+  pub asleep-quiet : v < shape .count → called (iarRead v) s .value ≡ 1023 → isSpurious (acknowledge-of.acknowledge shape v s) ≡ true
   asleep-quiet exists e = go (acknowledge-of.acknowledge shape v s) (rw (acknowledge-call exists) at e)
     where
       go : (a : Read) → readAnswer a s (acknowledge-of.acknowledged shape v s) .value ≡ 1023 → isSpurious a ≡ true

@@ -21,7 +21,7 @@ use Rattle.history.proofs.Always.{every-other-call}
 use Rattle.waiting.specs.Waiting.{meets, pends}
 use Rattle.waiting.proofs.Pends.{pending-stays, a-pulse-waits, pulse-controls}
 use Rattle.stories.specs.Stories as story
-use Rattle.stories.specs.Stories.{PulseInFlight, Served, GivenAgain}
+use Rattle.stories.specs.Stories.{PulseInFlight, InService, GivenAgain}
 use Rattle.stories.proofs.Begins.{pulsed-record, a-pulse-is-pending}
 use Rattle.stories.proofs.Calls.{pulse-call}
 use Rattle.stories.proofs.Retiring.{Idle, retiring-idle}
@@ -36,7 +36,7 @@ met-slot v n u e = go (leb 32 n) refl e
     go true p q = simp (le-ltb n 32 (leb-true 32 n p))
     go false p q = ap (λ (w : ℕ). cond (ltb n 32) (Private w n) (Spi n)) (eqb-true u v q)
 
-module _ (h : PulseInFlight) (z : Served h) where
+module _ (h : PulseInFlight) (z : InService h) where
   abbrev shape : Shape
   shape = h .shape
 
@@ -97,7 +97,7 @@ module _ (h : PulseInFlight) (z : Served h) where
   unfolding sourceOf
   no-source = simp (le-ltb n 16 (z .no-sgi))
 
-  gives : story.read h ≡ gave (n + 1024 * sourceOf shape (h .reader) n (story.turn h)) (given shape (h .reader) (entryFor shape (h .reader) (story.turn h) n) (story.turn h))
+  gives : story.readAgain h ≡ gave (n + 1024 * sourceOf shape (h .reader) n (story.turn h)) (given shape (h .reader) (entryFor shape (h .reader) (story.turn h) n) (story.turn h))
   gives = given-call shape (h .reader) n (story.turn h) controls₄ (z .reader-exists) (z .there .numbered) (z .takes) pended₄ (z .none-ahead)
 
   pub given-again : GivenAgain h

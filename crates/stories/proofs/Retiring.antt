@@ -18,7 +18,7 @@ use Rattle.delivery.specs.Delivery.{deactivate}
 use Rattle.delivery.proofs.Deactivation.{deactivated-record}
 use Rattle.delivery.proofs.Ended.{ended-record, ended-retired}
 use Rattle.delivery.proofs.Registers.{each-write}
-use Rattle.cpu_interface.specs.CpuInterface.{writeRegister, writeRetired, writeLooksUp}
+use Rattle.cpu_interface.specs.CpuInterface.{writeRegister, writeRetired, writeRegisterLooksUp}
 use Rattle.answer.specs.Answer.{Outcome, refused}
 use Rattle.lawful.specs.Lawful.{Controls}
 use Rattle.moves.proofs.Slots.{served}
@@ -119,7 +119,7 @@ module _ (shape : Shape) (s : List ℕ) (h : Controls shape s) (v n : ℕ) (numb
       (λ k away q e. absurd (omega (arith, e, numbered)))
       (λ k q e. ended-idle (q refl) k e)
       (λ k q e. deactivated-idle (q refl) k e)
-      register (subst (λ (k : ℕ). writeLooksUp register (x % 2 ^ 32) ≡ true → k < shape .count) p looked)))
+      register (subst (λ (k : ℕ). writeRegisterLooksUp register (x % 2 ^ 32) ≡ true → k < shape .count) p looked)))
       (λ u at w x place found written. tt)
       (λ u m asserted there past. tt)
       (λ u m there past. tt)

@@ -25,7 +25,7 @@ use Rattle.service.specs.Service.{depthAt}
 use Rattle.acknowledge.specs.Acknowledge as acknowledge-of
 use Rattle.acknowledge.specs.Acknowledge.{offer, sourceOf, given}
 use Rattle.acknowledge.proofs.Offers.{offer-is}
-use Rattle.wake.specs.Wake.{isSpurious, isNumber, woken, wakeSet, urgent, ready}
+use Rattle.wake.specs.Wake.{isSpurious, givesNumber, woken, wakeSet, urgent, ready}
 use Rattle.wake.proofs.Readiness.{some-at, ready-offer, ready-number}
 use Rattle.delivery.proofs.Answers.{acknowledge-is, acknowledged-is}
 use Rattle.answer.specs.Answer.{gave}
@@ -33,9 +33,9 @@ use Rattle.cpu_interface_frame.specs.CpuInterfaceFrame.{readAnswer}
 use Rattle.lawful.specs.Lawful.{Controls}
 use Rattle.lawful.proofs.Depths.{offer-room}
 use Rattle.moves.proofs.Slots.{served}
-use Rattle.history.specs.History.{called}
+use Rattle.history.specs.History.{called, iarRead}
 use Rattle.waiting.specs.Waiting.{bit}
-use Rattle.stories.specs.Stories.{acknowledge, Takes, NoneAhead}
+use Rattle.stories.specs.Stories.{Takes, NoneAhead}
 use Rattle.stories.proofs.Calls.{acknowledge-call}
 
 -- neither of two
@@ -61,7 +61,7 @@ module _ (shape : Shape) (v n : ℕ) (s : List ℕ) (h : Controls shape s) (exis
   unfolding ready
   is-ready = simp (takes .on, some-at (urgent shape v s) (shape .limit) n numbered (simp (is-candidate, lt-ltb _ _ (takes .preempts))))
 
-  pub is-number : isNumber (acknowledge-of.acknowledge shape v s) ≡ true
+  pub is-number : givesNumber (acknowledge-of.acknowledge shape v s) ≡ true
   is-number = ready-number shape v s (h .lawful .in-range .state .limits) ∙ simp (is-ready, lt-ltb (depthAt shape v s) 255 (room (offer shape v s) refl))
     where
       room : (b : Selected) → offer shape v s ≡ b → depthAt shape v s < 255
@@ -87,7 +87,7 @@ module _ (shape : Shape) (v n : ℕ) (s : List ℕ) (h : Controls shape s) (exis
     unfolding offer
     offered = simp (takes .on, is-best shape v s entry foremost, lt-ltb _ _ (takes .preempts))
 
-    pub given-call : called (acknowledge v) s ≡ gave (n + 1024 * sourceOf shape v n s) (given shape v entry s)
+    pub given-call : called (iarRead v) s ≡ gave (n + 1024 * sourceOf shape v n s) (given shape v entry s)
     given-call =
         let room = offer-room shape v s (h .lawful .orderly) exists entry offered in
         let lent = served shape s (h .lawful) v exists in
@@ -98,7 +98,7 @@ module _ (shape : Shape) (v n : ℕ) (s : List ℕ) (h : Controls shape s) (exis
 
 -- an active interrupt is not handed out
 pub active-waits : (shape : Shape) (v n : ℕ) (s : List ℕ) → Controls shape s → v < shape .count → n < 1020 → recordAt shape v n s .active ≡ true
-    → (source : ℕ) → called (acknowledge v) s .value ≡ n + 1024 * source → ⊥
+    → (source : ℕ) → called (iarRead v) s .value ≡ n + 1024 * source → ⊥
 unfolding acknowledge-of.answered candidate
 active-waits shape v n s h exists numbered active source p = go (offer shape v s) refl (rw (acknowledge-call shape s h v exists) at p)
   where
@@ -120,7 +120,7 @@ active-waits shape v n s h exists numbered active source p = go (offer shape v s
 
 -- the bit of a vCPU in a wake set
 pub wake-bit : (shape : Shape) (v : ℕ) (before after : List ℕ) → v < shape .count → isSpurious (acknowledge-of.acknowledge shape v before) ≡ true
-    → isNumber (acknowledge-of.acknowledge shape v after) ≡ true → bit v (wakeSet shape before after) ≡ true
+    → givesNumber (acknowledge-of.acknowledge shape v after) ≡ true → bit v (wakeSet shape before after) ≡ true
 unfolding wakeSet
 wake-bit shape v before after exists quiet number =
     let f : ℕ → ℕ = λ u. bitOf (woken shape before after u) in

@@ -28,11 +28,11 @@ use Rattle.delivery.proofs.Given.{given-sources, given-stack}
 use Rattle.answer.specs.Answer.{Outcome, gave, went}
 use Rattle.lawful.specs.Lawful.{Controls}
 use Rattle.moves.proofs.Slots.{served, givable}
-use Rattle.history.specs.History.{Call, called, run}
+use Rattle.history.specs.History.{Call, called, run, sgirWrite, iarRead, eoirWrite, dirWrite}
 use Rattle.history.proofs.Always.{every-other-call}
 use Rattle.waiting.specs.Waiting.{bit}
 use Rattle.stories.specs.Stories as story
-use Rattle.stories.specs.Stories.{ring, acknowledge, end, Rings, Takes, NoneAhead, allElsewhere, TwoRings, Sleeping, lower, higher, BothGiven}
+use Rattle.stories.specs.Stories.{Rings, Takes, NoneAhead, allElsewhere, TwoRings, Sleeping, lower, higher, BothGiven}
 use Rattle.stories.proofs.Calls.{ring-call, end-call, deactivate-call, asleep-quiet}
 use Rattle.stories.proofs.Elsewhere.{elsewhere-controls, elsewhere-agrees}
 use Rattle.stories.proofs.Events.{rung-record, rung-sources, rung-stack, rung-steady, given-steady, given-left, given-active, retired-served, retired-idle, ended-steady, ended-sources, dropped-record, dropped-steady, deactivated-steady, deactivated-sources}
@@ -85,10 +85,10 @@ module _ (h : TwoRings) (z : Sleeping h) where
   deep {s} c = served shape s (c .lawful) t exists .deep
 
   -- a ring adds its source
-  ring-waits : (u value x : ℕ) (s : List ℕ) → u < shape .count → Rings u value t n → Waits x s → Waits (bitOr x (2 ^ u)) (called (ring u value) s .state)
+  ring-waits : (u value x : ℕ) (s : List ℕ) → u < shape .count → Rings u value t n → Waits x s → Waits (bitOr x (2 ^ u)) (called (sgirWrite u value) s .state)
   unfolding setPending
   ring-waits u value x s there rings w = record {
-    controls = every-other-call shape (ring u value) refl s (w .controls);
+    controls = every-other-call shape (sgirWrite u value) refl s (w .controls);
     steady = then-steady (w .steady) (rw state (rung-steady shape t n u (value % 2 ^ 32) s room exists sgi fits (rings .numbered) (rings .named)));
     stack = rw state (rung-stack shape t n u (value % 2 ^ 32) s room exists sgi fits (rings .numbered) (rings .named) (deep (w .controls))) ∙ w .stack;
     idle = rw state (ap (λ (q : InterruptRecord). q .active) (rung-record shape t n u (value % 2 ^ 32) s room exists sgi fits (rings .numbered) (rings .named)) ∙ w .idle);
@@ -101,7 +101,7 @@ module _ (h : TwoRings) (z : Sleeping h) where
       fits : u < 8
       fits = omega (arith, there, room .limits .few-vcpus)
 
-      state : called (ring u value) s .state ≡ writeSgir shape u (value % 2 ^ 32) s
+      state : called (sgirWrite u value) s .state ≡ writeSgir shape u (value % 2 ^ 32) s
       state = ap (λ (o : Outcome). o .state) (ring-call shape s (w .controls) u value t there (rings .named))
 
   -- calls elsewhere change none of it
@@ -145,7 +145,7 @@ module _ (h : TwoRings) (z : Sleeping h) where
     abbrev taken : Entry
     taken = entryFor shape t s n
 
-    gives : called (acknowledge t) s ≡ gave (n + 1024 * lowestSource x) (given shape t taken s)
+    gives : called (iarRead t) s ≡ gave (n + 1024 * lowestSource x) (given shape t taken s)
     gives = given-call shape t n s (w .controls) exists (numbered (w .controls)) (takes-it x s w) (pending x s some w) none ∙ simp source-is
 
     given-lent : Givable shape t taken s
@@ -155,12 +155,12 @@ module _ (h : TwoRings) (z : Sleeping h) where
     left-is : sourcesAt shape t n (given shape t taken s) ≡ mergedSources false x (2 ^ lowestSource x)
     left-is = given-sources shape t taken s given-lent sgi ∙ ap (λ (k : ℕ). mergedSources false k (2 ^ lowestSource k)) (w .sources)
 
-    state : called (acknowledge t) s .state ≡ given shape t taken s
+    state : called (iarRead t) s .state ≡ given shape t taken s
     state = ap (λ (o : Outcome). o .state) gives
 
-    serves : (y : ℕ) → mergedSources false x (2 ^ lowestSource x) ≡ y → (y ≡ 0 → ⊥) → Serves (taken ∷ stackAt shape t base) (recordAt shape t n s) y (called (acknowledge t) s .state)
+    serves : (y : ℕ) → mergedSources false x (2 ^ lowestSource x) ≡ y → (y ≡ 0 → ⊥) → Serves (taken ∷ stackAt shape t base) (recordAt shape t n s) y (called (iarRead t) s .state)
     serves y left more = record {
-      controls = every-other-call shape (acknowledge t) refl s (w .controls);
+      controls = every-other-call shape (iarRead t) refl s (w .controls);
       steady = then-steady (w .steady) (rw state (given-steady shape t taken s given-lent sgi));
       stack = rw state (given-stack shape t taken s given-lent (omega (arith, sgi)) byte ∙ ap (λ (es : List Entry). taken ∷ es) (w .stack));
       pends = rw state (given-left shape t taken s given-lent sgi (λ p. more (sym left ∙ sym left-is ∙ p)));
@@ -181,23 +181,23 @@ module _ (h : TwoRings) (z : Sleeping h) where
     mode : (b : Bool) → eoiMode shape t base ≡ b → eoiMode shape t s ≡ b
     mode b p = eoi-same (w .steady) exists ∙ p
 
-    ends : called (end t n) s ≡ went shape (endRetired shape t n s) s (ended shape t n s)
+    ends : called (eoirWrite t n) s ≡ went shape (endRetired shape t n s) s (ended shape t n s)
     ends = end-call shape s (w .controls) t n exists (omega (arith, sgi))
 
-    after : called (end t n) s .state ≡ ended shape t n s
+    after : called (eoirWrite t n) s .state ≡ ended shape t n s
     after = ap (λ (o : Outcome). o .state) ends
 
     -- without EOI mode it is retired and waits with what is left
-    end-retires : eoiMode shape t base ≡ false → called (end t n) s .retired ≡ n
+    end-retires : eoiMode shape t base ≡ false → called (eoirWrite t n) s .retired ≡ n
     unfolding retired
     end-retires off =
         ap (λ (o : Outcome). o .retired) ends
         ∙ ended-retired shape t n s lent newest (mode false off)
         ∙ simp (lt-ltb n (shape .limit) (numbered (w .controls)), w .pends, retired-served t r)
 
-    end-waits : eoiMode shape t base ≡ false → Waits x (called (end t n) s .state)
+    end-waits : eoiMode shape t base ≡ false → Waits x (called (eoirWrite t n) s .state)
     end-waits off = record {
-      controls = every-other-call shape (end t n) refl s (w .controls);
+      controls = every-other-call shape (eoirWrite t n) refl s (w .controls);
       steady = then-steady (w .steady) (rw after (ended-steady shape t n s lent newest (numbered (w .controls)) (mode false off)));
       stack = rw after (ended-stack shape t n s lent newest e (stackAt shape t base) (w .stack));
       idle = rw after (ap (λ (q : InterruptRecord). q .active) (ended-record shape t n s lent newest (mode false off) (numbered (w .controls))) ∙ rw (w .pends) (retired-idle t r));
@@ -205,9 +205,9 @@ module _ (h : TwoRings) (z : Sleeping h) where
     }
 
     -- with it only the priority is dropped
-    end-drops : eoiMode shape t base ≡ true → Serves (stackAt shape t base) r x (called (end t n) s .state)
+    end-drops : eoiMode shape t base ≡ true → Serves (stackAt shape t base) r x (called (eoirWrite t n) s .state)
     end-drops on = record {
-      controls = every-other-call shape (end t n) refl s (w .controls);
+      controls = every-other-call shape (eoirWrite t n) refl s (w .controls);
       steady = then-steady (w .steady) (rw after (dropped-steady shape t n s lent newest (numbered (w .controls)) (mode true on)));
       stack = rw after (ended-stack shape t n s lent newest e (stackAt shape t base) (w .stack));
       pends = rw after (dropped-record shape t n s lent newest (numbered (w .controls)) (mode true on) ∙ w .pends);
@@ -219,19 +219,19 @@ module _ (h : TwoRings) (z : Sleeping h) where
     room : Room shape s
     room = w .controls .lawful .in-range .state
 
-    dirs : called (story.deactivate t n) s ≡ went shape (retired shape t n s) s (deactivated shape t n s)
+    dirs : called (dirWrite t n) s ≡ went shape (retired shape t n s) s (deactivated shape t n s)
     dirs = deactivate-call shape s (w .controls) t n exists (omega (arith, sgi))
 
-    dir-state : called (story.deactivate t n) s .state ≡ deactivated shape t n s
+    dir-state : called (dirWrite t n) s .state ≡ deactivated shape t n s
     dir-state = ap (λ (o : Outcome). o .state) dirs
 
-    dir-retires : called (story.deactivate t n) s .retired ≡ n
+    dir-retires : called (dirWrite t n) s .retired ≡ n
     unfolding retired
     dir-retires = ap (λ (o : Outcome). o .retired) dirs ∙ simp (lt-ltb n (shape .limit) (numbered (w .controls)), w .pends, retired-served t r)
 
-    dir-waits : Waits x (called (story.deactivate t n) s .state)
+    dir-waits : Waits x (called (dirWrite t n) s .state)
     dir-waits = record {
-      controls = every-other-call shape (story.deactivate t n) refl s (w .controls);
+      controls = every-other-call shape (dirWrite t n) refl s (w .controls);
       steady = then-steady (w .steady) (rw dir-state (deactivated-steady shape t n s room exists (numbered (w .controls))));
       stack = rw dir-state (deactivated-stacks shape t n s room exists t exists (deep (w .controls)) ∙ w .stack);
       idle = rw dir-state (ap (λ (q : InterruptRecord). q .active) (deactivated-record shape t n s room exists (numbered (w .controls))) ∙ rw (w .pends) (retired-idle t r));
@@ -305,22 +305,22 @@ module _ (h : TwoRings) (z : Sleeping h) where
     number : o .retired ≡ n
     waits : Waits (2 ^ high) (o .state)
 
-  drops : story.inEoiMode h ≡ true → Serves (stackAt shape t base) old (2 ^ high) (story.dropped h)
-  drops on = elsewhere-serves (h .meanwhile₄) (stackAt shape t base) old (2 ^ high) (story.ended h .state) (z .elsewhere₄) (end-drops first old (2 ^ high) (story.serving h) refl in-service on)
+  drops : story.inEoiMode h ≡ true → Serves (stackAt shape t base) old (2 ^ high) (story.afterEnd h)
+  drops on = elsewhere-serves (h .meanwhile₄) (stackAt shape t base) old (2 ^ high) (story.firstEnd h .state) (z .elsewhere₄) (end-drops first old (2 ^ high) (story.serving h) refl in-service on)
 
-  retires : Retires (story.deactivated h)
+  retires : Retires (story.deactivation h)
   retires = go (story.inEoiMode h) refl
     where
-      go : (b : Bool) → story.inEoiMode h ≡ b → Retires (cond b (called (story.deactivate t n) (story.dropped h)) (story.ended h))
-      go true on = record { number = dir-retires old (2 ^ high) (story.dropped h) (drops on); waits = dir-waits old (2 ^ high) (story.dropped h) (drops on) }
+      go : (b : Bool) → story.inEoiMode h ≡ b → Retires (cond b (called (dirWrite t n) (story.afterEnd h)) (story.firstEnd h))
+      go true on = record { number = dir-retires old (2 ^ high) (story.afterEnd h) (drops on); waits = dir-waits old (2 ^ high) (story.afterEnd h) (drops on) }
       go false off = record { number = end-retires first old (2 ^ high) (story.serving h) refl in-service off; waits = end-waits first old (2 ^ high) (story.serving h) refl in-service off }
 
   -- while it is served no acknowledge gives it
-  not-yet : (es : List Entry) (s : List ℕ) → Serves es old (2 ^ high) s → (source : ℕ) → called (acknowledge t) s .value ≡ n + 1024 * source → ⊥
+  not-yet : (es : List Entry) (s : List ℕ) → Serves es old (2 ^ high) s → (source : ℕ) → called (iarRead t) s .value ≡ n + 1024 * source → ⊥
   not-yet es s w = active-waits shape t n s (w .controls) exists (omega (arith, sgi)) (ap (λ (q : InterruptRecord). q .active) (w .pends) ∙ given-active t old)
 
   one-waits : Waits (2 ^ high) (story.oneWaits h)
-  one-waits = elsewhere-waits (h .meanwhile₅) (2 ^ high) (story.deactivated h .state) (z .elsewhere₅) (retires .waits)
+  one-waits = elsewhere-waits (h .meanwhile₅) (2 ^ high) (story.deactivation h .state) (z .elsewhere₅) (retires .waits)
 
   second-gives : story.secondRead h ≡ gave (n + 1024 * lowestSource (2 ^ high)) (given shape t (entryFor shape t (story.oneWaits h) n) (story.oneWaits h))
   second-gives = gives _ _ high-some one-waits (z .none-ahead₂)
@@ -344,7 +344,7 @@ module _ (h : TwoRings) (z : Sleeping h) where
     first-accepted = ap (λ (o : Outcome). o .refusal) first-gives;
     first-given = ap (λ (o : Outcome). o .value) first-gives ∙ ap (λ (k : ℕ). n + 1024 * k) lowest;
     one-at-a-time = not-yet (first ∷ stackAt shape t base) (story.serving h) in-service;
-    one-until-deactivated = λ on. not-yet (stackAt shape t base) (story.dropped h) (drops on);
+    one-until-deactivated = λ on. not-yet (stackAt shape t base) (story.afterEnd h) (drops on);
     retired = retires .number;
     second-accepted = ap (λ (o : Outcome). o .refusal) second-gives;
     second-given = ap (λ (o : Outcome). o .value) second-gives ∙ ap (λ (k : ℕ). n + 1024 * k) (only-source high high-few);

@@ -6,7 +6,6 @@ use mathlib.Core.List.{List, [], _∷_}
 use Prim.Native.Nat.{ℕ, _+_, _*_, _%_, _^_, _≤_, _<_}
 use lib.Dec.{eqb, ltb}
 use Rattle.register.specs.declared.frame.AccessWidth.{AccessWidth}
-use Rattle.register.specs.declared.frame.AccessWidth.the-variants.{Dword}
 use Rattle.register.specs.declared.ranges.Class.{Class}
 use Rattle.register.specs.declared.ranges.Class.the-variants.{Ctlr, Typer, Iidr, Sgir, Bits, Bytes, Other}
 use Rattle.register.specs.declared.distributor.DistributorAccess.{DistributorAccess}
@@ -21,21 +20,8 @@ use Rattle.service.specs.Service.{running}
 use Rattle.end.specs.End.{eoiMode}
 use Rattle.answer.specs.Answer.{Outcome}
 use Rattle.lawful.specs.Lawful.{Controls}
-use Rattle.history.specs.History.{Call, Setup, ReadDistributor, WriteDistributor, ReadCpuInterface, WriteCpuInterface, SetLevel, Pulse, called, run}
+use Rattle.history.specs.History.{Call, Setup, ReadDistributor, WriteDistributor, ReadCpuInterface, WriteCpuInterface, SetLevel, Pulse, called, run, sgirWrite, iarRead, eoirWrite, dirWrite}
 use Rattle.waiting.specs.Waiting.{bit, meets, takesPending, never}
-
--- a guest's calls: a ring (a write to SGIR), an acknowledge (a read of IAR), an end (a write to EOIR), a deactivation (a write to DIR)
-abbrev pub ring : ℕ → ℕ → Call
-ring v value = WriteDistributor v 0xf00 Dword value
-
-abbrev pub acknowledge : ℕ → Call
-acknowledge v = ReadCpuInterface v 0x0c Dword
-
-abbrev pub end : ℕ → ℕ → Call
-end v n = WriteCpuInterface v 0x10 Dword n
-
-abbrev pub deactivate : ℕ → ℕ → Call
-deactivate v n = WriteCpuInterface v 0x1000 Dword n
 
 -- what v writes rings the SGI n at t
 pub record Rings (v value t n : ℕ) : Type 0 where
@@ -108,37 +94,37 @@ pub record TwoRings : Type 0 where
   pub meanwhile₅ : List Call
 
 abbrev pub oneRings : TwoRings → Outcome
-oneRings h = called (ring (h .one) (h .one-writes)) (h .words)
+oneRings h = called (sgirWrite (h .one) (h .one-writes)) (h .words)
 
 abbrev pub otherRings : TwoRings → Outcome
-otherRings h = called (ring (h .other) (h .other-writes)) (run (h .meanwhile₁) (oneRings h .state))
+otherRings h = called (sgirWrite (h .other) (h .other-writes)) (run (h .meanwhile₁) (oneRings h .state))
 
 abbrev pub bothWait : TwoRings → List ℕ
 bothWait h = run (h .meanwhile₂) (otherRings h .state)
 
 abbrev pub firstRead : TwoRings → Outcome
-firstRead h = called (acknowledge (h .target)) (bothWait h)
+firstRead h = called (iarRead (h .target)) (bothWait h)
 
 abbrev pub serving : TwoRings → List ℕ
 serving h = run (h .meanwhile₃) (firstRead h .state)
 
-abbrev pub ended : TwoRings → Outcome
-ended h = called (end (h .target) (h .sgi)) (serving h)
+abbrev pub firstEnd : TwoRings → Outcome
+firstEnd h = called (eoirWrite (h .target) (h .sgi)) (serving h)
 
-abbrev pub dropped : TwoRings → List ℕ
-dropped h = run (h .meanwhile₄) (ended h .state)
+abbrev pub afterEnd : TwoRings → List ℕ
+afterEnd h = run (h .meanwhile₄) (firstEnd h .state)
 
 abbrev pub inEoiMode : TwoRings → Bool
 inEoiMode h = eoiMode (h .shape) (h .target) (h .words)
 
-abbrev pub deactivated : TwoRings → Outcome
-deactivated h = cond (inEoiMode h) (called (deactivate (h .target) (h .sgi)) (dropped h)) (ended h)
+abbrev pub deactivation : TwoRings → Outcome
+deactivation h = cond (inEoiMode h) (called (dirWrite (h .target) (h .sgi)) (afterEnd h)) (firstEnd h)
 
 abbrev pub oneWaits : TwoRings → List ℕ
-oneWaits h = run (h .meanwhile₅) (deactivated h .state)
+oneWaits h = run (h .meanwhile₅) (deactivation h .state)
 
 abbrev pub secondRead : TwoRings → Outcome
-secondRead h = called (acknowledge (h .target)) (oneWaits h)
+secondRead h = called (iarRead (h .target)) (oneWaits h)
 
 -- the target sleeps (an acknowledge would answer 1023), can take the SGI, and has it not rung; the other calls are elsewhere, and when it
 -- acknowledges nothing more urgent waits for it
@@ -151,7 +137,7 @@ pub record Sleeping (h : TwoRings) : Type 0 where
   pub is-sgi : h .sgi < 16
   pub one-rings : Rings (h .one) (h .one-writes) (h .target) (h .sgi)
   pub other-rings : Rings (h .other) (h .other-writes) (h .target) (h .sgi)
-  pub asleep : called (acknowledge (h .target)) (h .words) .value ≡ 1023
+  pub asleep : called (iarRead (h .target)) (h .words) .value ≡ 1023
   pub takes : Takes (h .shape) (h .target) (h .sgi) (h .words)
   pub unrung : sourcesAt (h .shape) (h .target) (h .sgi) (h .words) ≡ 0
   pub elsewhere₁ : allElsewhere (h .target) (h .sgi) (h .meanwhile₁) ≡ true
@@ -174,9 +160,9 @@ pub record BothGiven (h : TwoRings) : Type 0 where
   pub wakes : bit (h .target) (oneRings h .wake) ≡ true
   pub first-accepted : firstRead h .refusal ≡ 0
   pub first-given : firstRead h .value ≡ h .sgi + 1024 * lower (h .one) (h .other)
-  pub one-at-a-time : (source : ℕ) → called (acknowledge (h .target)) (serving h) .value ≡ h .sgi + 1024 * source → ⊥
-  pub one-until-deactivated : inEoiMode h ≡ true → (source : ℕ) → called (acknowledge (h .target)) (dropped h) .value ≡ h .sgi + 1024 * source → ⊥
-  pub retired : deactivated h .retired ≡ h .sgi
+  pub one-at-a-time : (source : ℕ) → called (iarRead (h .target)) (serving h) .value ≡ h .sgi + 1024 * source → ⊥
+  pub one-until-deactivated : inEoiMode h ≡ true → (source : ℕ) → called (iarRead (h .target)) (afterEnd h) .value ≡ h .sgi + 1024 * source → ⊥
+  pub retired : deactivation h .retired ≡ h .sgi
   pub second-accepted : secondRead h .refusal ≡ 0
   pub second-given : secondRead h .value ≡ h .sgi + 1024 * higher (h .one) (h .other)
   pub none-left : sourcesAt (h .shape) (h .target) (h .sgi) (secondRead h .state) ≡ 0
@@ -205,11 +191,11 @@ retires h = called (WriteCpuInterface (h .retirer) (h .offset) (h .width) (h .wr
 abbrev pub turn : PulseInFlight → List ℕ
 turn h = run (h .meanwhile₂) (retires h .state)
 
-abbrev pub read : PulseInFlight → Outcome
-read h = called (acknowledge (h .reader)) (turn h)
+abbrev pub readAgain : PulseInFlight → Outcome
+readAgain h = called (iarRead (h .reader)) (turn h)
 
 -- nobody takes it in the meantime (`takesPending`), and when the reader acknowledges it can take it and nothing goes before it
-pub record Served (h : PulseInFlight) : Type 0 where
+pub record InService (h : PulseInFlight) : Type 0 where
   pub controls : Controls (h .shape) (h .words)
   pub there : RecordThere (h .shape) (h .vcpu) (h .interrupt)
   pub no-sgi : 16 ≤ h .interrupt
@@ -230,5 +216,5 @@ pub record GivenAgain (h : PulseInFlight) : Type 0 where
   pub waits : recordAt (h .shape) (h .vcpu) (h .interrupt) (retires h .state) .pending ≡ true
   pub idle : recordAt (h .shape) (h .vcpu) (h .interrupt) (retires h .state) .active ≡ false
   pub not-in-flight : recordAt (h .shape) (h .vcpu) (h .interrupt) (retires h .state) .inflight ≡ false
-  pub read-accepted : read h .refusal ≡ 0
-  pub given-again : read h .value ≡ h .interrupt
+  pub read-accepted : readAgain h .refusal ≡ 0
+  pub given-again : readAgain h .value ≡ h .interrupt

@@ -23,10 +23,10 @@ use Rattle.history.specs.History.{Call, Setup, called, run, noSetup}
 use Rattle.history.proofs.Always.{a-fresh-controller, same-controller}
 use Rattle.corners.specs.Corners.{zeros}
 use Rattle.corners.proofs.Started.{started, setup-started, computing}
-use Rattle.stories.specs.Stories.{Takes, ahead, NoneAhead, TwoRings, bothWait, firstRead, oneWaits, secondRead, Sleeping, PulseInFlight, turn, read, Served}
+use Rattle.stories.specs.Stories.{Takes, ahead, NoneAhead, TwoRings, bothWait, firstRead, oneWaits, secondRead, Sleeping, PulseInFlight, turn, readAgain, InService}
 use Rattle.stories.proofs.TwoRings.{both-given}
 use Rattle.stories.proofs.PulseInFlight.{given-again}
-use Rattle.story_examples.specs.Examples.{lent, after, beforeRings, twoRingsFrom, twoRings, beforePulse, pulseInFlightFrom, pulseInFlight}
+use Rattle.story_examples.specs.Examples.{lent, afterCalls, beforeRings, twoRingsFrom, twoRings, beforePulse, pulseInFlightFrom, pulseInFlight}
 
 -- the words after a setup and calls, from the state that setup leaves built once
 module _ (count limit : ℕ) (cs : List Call) where
@@ -37,7 +37,7 @@ module _ (count limit : ℕ) (cs : List Call) where
     set-up : called (Setup count limit) (lent count limit) ≡ gave 0 (started (shaped count limit) (lent count limit))
     set-up = setup-started count limit (lent count limit) within long
 
-    same-words : begun ≡ after count limit cs
+    same-words : begun ≡ afterCalls count limit cs
     unfolding run
     same-words = ap (λ (o : Outcome). run cs (o .state)) (sym set-up)
 
@@ -161,7 +161,7 @@ its-turn : tested (shaped 1 34) 0 33 (turn pulses) ≡ true
 unfolding run zeros beforePulse pulseInFlightFrom computing
 its-turn = refl
 
-pulses-served : Served pulses
+pulses-served : InService pulses
 unfolding run zeros beforePulse pulseInFlightFrom computing
 pulses-served = record {
   controls = pulses-controls;
@@ -178,10 +178,10 @@ pulses-served = record {
   none-ahead = none-ahead (shaped 1 34) 0 33 (turn pulses) its-turn;
 }
 
-pub served : Served pulseInFlight
+pub served : InService pulseInFlight
 unfolding zeros
-served = subst (λ (s : List ℕ). Served (pulseInFlightFrom s)) (same-words 1 34 beforePulse refl refl) pulses-served
+served = subst (λ (s : List ℕ). InService (pulseInFlightFrom s)) (same-words 1 34 beforePulse refl refl) pulses-served
 
-pub read-again : read pulseInFlight .value ≡ 33
+pub read-again : readAgain pulseInFlight .value ≡ 33
 unfolding pulseInFlightFrom
 read-again = given-again pulseInFlight served .given-again

@@ -5,16 +5,16 @@ use Prim.Native.Nat.{ℕ}
 use Rattle.register.specs.declared.frame.AccessWidth.the-variants.{Byte, Dword}
 use Rattle.state.specs.Layout.{size}
 use Rattle.state.specs.Lent.{shaped}
-use Rattle.history.specs.History.{Call, Setup, ReadDistributor, WriteDistributor, ReadCpuInterface, WriteCpuInterface, Pulse, run}
+use Rattle.history.specs.History.{Call, Setup, ReadDistributor, WriteDistributor, ReadCpuInterface, WriteCpuInterface, Pulse, run, sgirWrite, iarRead}
 use Rattle.corners.specs.Corners.{zeros}
-use Rattle.stories.specs.Stories.{ring, acknowledge, TwoRings, PulseInFlight}
+use Rattle.stories.specs.Stories.{TwoRings, PulseInFlight}
 
 abbrev pub lent : ℕ → ℕ → List ℕ
 lent count limit = zeros (size (shaped count limit))
 
 -- the words after a setup and calls
-abbrev pub after : ℕ → ℕ → List Call → List ℕ
-after count limit cs = run (Setup count limit ∷ cs) (lent count limit)
+abbrev pub afterCalls : ℕ → ℕ → List Call → List ℕ
+afterCalls count limit cs = run (Setup count limit ∷ cs) (lent count limit)
 
 -- Two rings, in EOI mode; without it the corner list has the same story. Before them the Distributor is turned on, and the interface of vCPU 2,
 -- which masks nothing and has nothing to do.
@@ -39,14 +39,14 @@ twoRingsFrom s = record {
   one-writes = 0x00040003;
   other-writes = 0x00040003;
   meanwhile₁ = Pulse 1 33 ∷ ReadDistributor 0 0x004 Dword ∷ WriteCpuInterface 0 0x00 Dword 1 ∷ WriteCpuInterface 0 0x04 Dword 255 ∷ [];
-  meanwhile₂ = ring 0 0x00050004 ∷ [];
-  meanwhile₃ = acknowledge 0 ∷ [];
+  meanwhile₂ = sgirWrite 0 0x00050004 ∷ [];
+  meanwhile₃ = iarRead 0 ∷ [];
   meanwhile₄ = WriteCpuInterface 0 0x10 Dword 4 ∷ [];
   meanwhile₅ = ReadCpuInterface 0 0x14 Dword ∷ [];
 }
 
 abbrev pub twoRings : TwoRings
-twoRings = twoRingsFrom (after 3 34 beforeRings)
+twoRings = twoRingsFrom (afterCalls 3 34 beforeRings)
 
 -- A pulse in flight. Before it all is turned on; SPI 33 is made edge, vCPU 0's and enabled, and SGI 5 less urgent than it; SPI 33 is pulsed a
 -- first time and acknowledged.
@@ -60,7 +60,7 @@ beforePulse =
     ∷ WriteDistributor 0 0x405 Byte 0xa0
     ∷ WriteDistributor 0 0x104 Dword 0x2
     ∷ Pulse 0 33
-    ∷ acknowledge 0
+    ∷ iarRead 0
     ∷ []
 
 -- SPI 33 is pulsed again. vCPU 0, which still serves it, acknowledges in vain and rings SGI 5 at itself; it writes 33 to EOIR; it reads ISPENDR.
@@ -70,7 +70,7 @@ pulseInFlightFrom s = record {
   words = s;
   vcpu = 0;
   interrupt = 33;
-  meanwhile₁ = acknowledge 0 ∷ ring 0 0x02000005 ∷ [];
+  meanwhile₁ = iarRead 0 ∷ sgirWrite 0 0x02000005 ∷ [];
   retirer = 0;
   offset = 0x10;
   width = Dword;
@@ -80,4 +80,4 @@ pulseInFlightFrom s = record {
 }
 
 abbrev pub pulseInFlight : PulseInFlight
-pulseInFlight = pulseInFlightFrom (after 1 34 beforePulse)
+pulseInFlight = pulseInFlightFrom (afterCalls 1 34 beforePulse)

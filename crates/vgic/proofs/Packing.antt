@@ -5,25 +5,25 @@ use Prim.Native.Nat.{ℕ, _/_, _%_, _^_, _<_}
 use native.Mathlib.Omega.{arith}
 use Rattle.answer.specs.declared.Answer.{Answer}
 use Rattle.answer.specs.Answer.{Outcome, outcome}
-use Rattle.vgic.specs.Packed.{packed, Answers}
+use Rattle.vgic.specs.Packed.{packedAnswer, Answers}
 
-pub answers : (number : ℕ) (a : Answer) → ((s : List ℕ) → number ≡ packed (outcome a s)) → (s : List ℕ) (o : Outcome) → outcome a s ≡ o → Answers number s o
-answers number a p s o q = record { number-is = p s ∙ ap packed q; state-is = ap (λ (t : Outcome). t .state) q }
+pub answers : (number : ℕ) (a : Answer) → ((s : List ℕ) → number ≡ packedAnswer (outcome a s)) → (s : List ℕ) (o : Outcome) → outcome a s ≡ o → Answers number s o
+answers number a p s o q = record { number-is = p s ∙ ap packedAnswer q; state-is = ap (λ (t : Outcome). t .state) q }
 
 -- the fields of a packed answer read back
 module _ (o : Outcome) (value-fits : o .value < 2 ^ 32) (retired-fits : o .retired < 2 ^ 16) (wake-fits : o .wake < 2 ^ 8) where
-  pub packed-value : packed o % 2 ^ 32 ≡ o .value
-  unfolding packed
+  pub packed-value : packedAnswer o % 2 ^ 32 ≡ o .value
+  unfolding packedAnswer
   packed-value = omega arith
 
-  pub packed-retired : packed o / 2 ^ 32 % 2 ^ 16 ≡ o .retired
-  unfolding packed
+  pub packed-retired : packedAnswer o / 2 ^ 32 % 2 ^ 16 ≡ o .retired
+  unfolding packedAnswer
   packed-retired = omega arith
 
-  pub packed-wake : packed o / 2 ^ 48 % 2 ^ 8 ≡ o .wake
-  unfolding packed
+  pub packed-wake : packedAnswer o / 2 ^ 48 % 2 ^ 8 ≡ o .wake
+  unfolding packedAnswer
   packed-wake = omega arith
 
-  pub packed-refusal : packed o / 2 ^ 56 ≡ o .refusal
-  unfolding packed
+  pub packed-refusal : packedAnswer o / 2 ^ 56 ≡ o .refusal
+  unfolding packedAnswer
   packed-refusal = omega arith

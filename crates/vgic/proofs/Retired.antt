@@ -23,10 +23,10 @@ use Rattle.state.proofs.Tests.{left-true}
 use Rattle.state.proofs.Validated.{validated-held}
 use Rattle.service.specs.Service.{dropped}
 use Rattle.end.specs.End.{servedHere, retired, deactivates, endRetired}
-use Rattle.cpu_interface.specs.CpuInterface.{writeRegister, writeRetired, writeLooksUp}
+use Rattle.cpu_interface.specs.CpuInterface.{writeRegister, writeRetired, writeRegisterLooksUp}
 use Rattle.delivery.proofs.Registers.{each-write}
 use Rattle.answer.specs.Answer.{refused, went, onState, absent}
-use Rattle.cpu_interface_frame.specs.CpuInterfaceFrame.{writeAccess, writeV2CpuInterface}
+use Rattle.cpu_interface_frame.specs.CpuInterfaceFrame.{writeInterfaceAccess, writeV2CpuInterface}
 
 module _ (shape : Shape) (l : Limits shape) (v : ℕ) where
   retired-below : (n : ℕ) (s : List ℕ) → retired shape v n s < 1024
@@ -49,9 +49,9 @@ module _ (shape : Shape) (l : Limits shape) (v : ℕ) where
   write-below register value s =
       each-write shape v s value (λ looksUp number r. number < 1024) (λ looksUp. omega arith) (λ k away. omega arith) (λ n. end-below n s) (λ n. retired-below n s) register
 
-  access-below : (access : CpuInterfaceAccess) (value : ℕ) (s : List ℕ) → writeAccess shape v access value s .retired < 1024
+  access-below : (access : CpuInterfaceAccess) (value : ℕ) (s : List ℕ) → writeInterfaceAccess shape v access value s .retired < 1024
   access-below (Refused r) value s = omega arith
-  access-below (At register) value s = go (absent (writeLooksUp register value) shape v)
+  access-below (At register) value s = go (absent (writeRegisterLooksUp register value) shape v)
     where
       go : (b : Bool) → cond b (refused Vcpu s) (went shape (writeRetired shape v register value s) s (writeRegister shape v register value s)) .retired < 1024
       go true = omega arith
@@ -62,6 +62,6 @@ pub write-v2-cpu-interface-below : (v offset : ℕ) (width : AccessWidth) (value
 unfolding writeV2CpuInterface
 write-v2-cpu-interface-below v offset width value s = go (validated s) refl
   where
-    go : (lent : Lent) → validated s ≡ lent → onState lent s (λ shape. writeAccess shape v (locateCpuInterface offset width) (value % 2 ^ 32) s) .retired < 1024
+    go : (lent : Lent) → validated s ≡ lent → onState lent s (λ shape. writeInterfaceAccess shape v (locateCpuInterface offset width) (value % 2 ^ 32) s) .retired < 1024
     go Broken e = omega arith
     go (Sound shape) e = access-below shape (validated-held s shape e .state .limits) v (locateCpuInterface offset width) (value % 2 ^ 32) s

@@ -14,12 +14,12 @@ use Rattle.state.specs.Lent.{limited}
 use Rattle.answer.specs.Answer.{Outcome, refused}
 
 -- bits 0 to 31 the value, 32 to 47 the retired number, 48 to 55 the wake set, 56 to 63 the refusal
-unfoldable pub packed : Outcome → ℕ
-packed o = o .value + 2 ^ 32 * (o .retired % 2 ^ 16) + 2 ^ 48 * o .wake + 2 ^ 56 * o .refusal
+unfoldable pub packedAnswer : Outcome → ℕ
+packedAnswer o = o .value + 2 ^ 32 * (o .retired % 2 ^ 16) + 2 ^ 48 * o .wake + 2 ^ 56 * o .refusal
 
 -- a call at the C face: its number and the words after it are the outcome's
 pub record Answers (number : ℕ) (s : List ℕ) (o : Outcome) : Type 0 where
-  pub number-is : number ≡ packed o
+  pub number-is : number ≡ packedAnswer o
   pub state-is : s ≡ o .state
 
 -- "a call can be given no other": a width that is none is refused by 2 before all else

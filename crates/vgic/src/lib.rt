@@ -6,8 +6,8 @@ ghost use Rattle.answer.specs.Answer.{outcome};
 ghost use Rattle.controller.specs.Start.{setup};
 ghost use Rattle.distributor_frame.specs.DistributorFrame.{readV2Distributor, writeV2Distributor};
 ghost use Rattle.cpu_interface_frame.specs.CpuInterfaceFrame.{readV2CpuInterface, writeV2CpuInterface};
-ghost use Rattle.input.specs.Input.{setLevel, pulse};
-ghost use Rattle.vgic.specs.Packed.{packed, Answers, accessed, stateWords};
+ghost use Rattle.input.specs.Input.{deviceLevel, devicePulse};
+ghost use Rattle.vgic.specs.Packed.{packedAnswer, Answers, accessed, stateWords};
 use controller::Answer;
 use interrupt::GicVcpuId;
 use register::AccessWidth;
@@ -18,7 +18,7 @@ use state::lent::validate_limits;
 
 // An answer as one number. No shift and no sum leaves its 64 bits.
 fn packed(answer: Answer) -> u64
-    ensures { λ r. ⌜ ((s : List ℕ) → r ≡ packed (outcome answer s)) ⌝ }
+    ensures { λ r. ⌜ ((s : List ℕ) → r ≡ packedAnswer (outcome answer s)) ⌝ }
 {
     let value = answer.value() as u64;
     let retired = answer.retired() as u64 % 65536;
@@ -109,14 +109,14 @@ pub extern "C" fn vgic_write_v2_cpu_interface(
 
 #[no_mangle]
 pub extern "C" fn vgic_set_level(words: &mut [u32], vcpu: u64, number: u64, asserted: bool) -> u64
-    ensures { λ r. ⌜ Answers r (now (words .exit)) (setLevel vcpu number asserted (now (words .entry))) ⌝ }
+    ensures { λ r. ⌜ Answers r (now (words .exit)) (deviceLevel vcpu number asserted (now (words .entry))) ⌝ }
 {
     packed(controller::set_level(words, GicVcpuId(vcpu as usize), number, asserted))
 }
 
 #[no_mangle]
 pub extern "C" fn vgic_pulse(words: &mut [u32], vcpu: u64, number: u64) -> u64
-    ensures { λ r. ⌜ Answers r (now (words .exit)) (pulse vcpu number (now (words .entry))) ⌝ }
+    ensures { λ r. ⌜ Answers r (now (words .exit)) (devicePulse vcpu number (now (words .entry))) ⌝ }
 {
     packed(controller::pulse(words, GicVcpuId(vcpu as usize), number))
 }

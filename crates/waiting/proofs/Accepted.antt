@@ -21,11 +21,11 @@ use Rattle.state.proofs.Tests.{left-true}
 use Rattle.acknowledge.specs.Acknowledge.{given, acknowledge, acknowledged}
 use Rattle.cpu_interface.specs.CpuInterface.{acknowledging}
 use Rattle.delivery.proofs.Registers.{each-read}
-use Rattle.places.specs.Places.{writeLooksUp, writePlace}
+use Rattle.places.specs.Places.{writePlaceLooksUp, writePlace}
 use Rattle.answer.specs.Answer.{Outcome, went, absent, lookedUp}
 use Rattle.answer.proofs.Present.{present, found}
 use Rattle.distributor_frame.specs.DistributorFrame.{writeV2Distributor}
-use Rattle.cpu_interface_frame.specs.CpuInterfaceFrame.{readAnswer, readAt, readAccess, readV2CpuInterface}
+use Rattle.cpu_interface_frame.specs.CpuInterfaceFrame.{readAnswer, readInterfaceAt, readInterfaceAccess, readV2CpuInterface}
 use Rattle.input.specs.declared.Signal.{Signal}
 use Rattle.input.specs.Input.{signalled, inputOf, deviceInput}
 use Rattle.lawful.specs.Lawful.{Controls}
@@ -37,10 +37,10 @@ use Rattle.waiting.proofs.Keeping.{handedOut, acknowledge-cases}
 
 module _ (shape : Shape) (s : List ℕ) (h : Controls shape s) (v : ℕ) where
   pub write-call : (offset : ℕ) (width : AccessWidth) (value : ℕ) (place : Place) → locateDistributor offset width ≡ distributor.At place
-      → (writeLooksUp (place .class) (place .private) (value % 2 ^ 32) ≡ true → v < shape .count)
+      → (writePlaceLooksUp (place .class) (place .private) (value % 2 ^ 32) ≡ true → v < shape .count)
       → called (WriteDistributor v offset width value) s ≡ went shape 1023 s (writePlace shape v place width (value % 2 ^ 32) s)
   unfolding writeV2Distributor
-  write-call offset width value place at looked = simp (valid shape s h, at, found (writeLooksUp (place .class) (place .private) (value % 2 ^ 32)) shape v looked)
+  write-call offset width value place at looked = simp (valid shape s h, at, found (writePlaceLooksUp (place .class) (place .private) (value % 2 ^ 32)) shape v looked)
 
   pub input-call : (signal : Signal) (n : ℕ) → RecordThere shape v n → 16 ≤ n → deviceInput signal v n s ≡ went shape 1023 s (changed shape v n (signalled signal) s)
   unfolding deviceInput inputOf
@@ -57,7 +57,7 @@ module _ (shape : Shape) (s : List ℕ) (h : Controls shape s) (v : ℕ) where
   abbrev acknowledging-read : Outcome
   acknowledging-read = lookedUp (enabledAt shape s) shape v s (readAnswer (acknowledge shape v s) s (acknowledged shape v s))
 
-  acknowledges : (register : CpuInterfaceRegister) → acknowledging register ≡ true → readAt shape v register s ≡ acknowledging-read
+  acknowledges : (register : CpuInterfaceRegister) → acknowledging register ≡ true → readInterfaceAt shape v register s ≡ acknowledging-read
   acknowledges =
       each-read shape v s (λ k looksUp answer r. acknowledging k ≡ true → lookedUp looksUp shape v s (readAnswer answer s r) ≡ acknowledging-read)
       (λ k no looksUp x is. absurd (true≢false (sym is ∙ no))) (λ k is same. refl)
@@ -82,10 +82,10 @@ module _ (shape : Shape) (s : List ℕ) (h : Controls shape s) (v : ℕ) where
     unfolding readV2CpuInterface
     hands-out offset width = rw (valid shape s h) (go (locateCpuInterface offset width))
       where
-        go : (a : CpuInterfaceAccess) → gives x a (readAccess shape v a s) ≡ true → HandsOut x (readAccess shape v a s .state)
+        go : (a : CpuInterfaceAccess) → gives x a (readInterfaceAccess shape v a s) ≡ true → HandsOut x (readInterfaceAccess shape v a s .state)
         go (interface.Refused r) e = absurd (false≢true e)
         go (interface.At register) e =
-            let o = readAt shape v register s in
+            let o = readInterfaceAt shape v register s in
             let is : acknowledging register ≡ true = left-true (acknowledging register) (eqb (o .refusal) 0) (left-true (acknowledging register && eqb (o .refusal) 0) (eqb (o .value) x) e) in
             let reads = acknowledges register is in
             rw reads (handing (rw (is, reads) at e))

@@ -13,7 +13,7 @@ use Rattle.register.specs.declared.«cpu_interface».CpuInterfaceAccess.the-var
 use Rattle.register.specs.CpuInterface.{locateCpuInterface}
 use Rattle.register.specs.Distributor.{locateDistributor}
 use Rattle.register.specs.declared.ranges.Class.{Class}
-use Rattle.register.specs.Ranges.{numberOf, classOf}
+use Rattle.register.specs.Ranges.{classNumber, classOf}
 use Rattle.register.proofs.Map.{class-of-number}
 use Rattle.state.specs.declared.layout.Shape.{Shape}
 use Rattle.state.specs.declared.words.Entry.{Entry}
@@ -45,7 +45,7 @@ use Rattle.waiting.specs.Waiting.{isClass, gives, among, never}
 
 -- a class is known by its number
 pub is-class : (this c : Class) → isClass this c ≡ true → c ≡ this
-is-class this c e = sym (class-of-number c) ∙ ap classOf (eqb-true (numberOf c) (numberOf this) e) ∙ class-of-number this
+is-class this c e = sym (class-of-number c) ∙ ap classOf (eqb-true (classNumber c) (classNumber this) e) ∙ class-of-number this
 
 -- a number of a run, by its place there
 pub run-at : (n first at count : ℕ) → at < count → first + at ≡ n → (among n first count ≡ true) × (n - first ≡ at)

@@ -18,7 +18,7 @@ use Rattle.register.specs.declared.«cpu_interface».CpuInterfaceAccess.the-var
 use Rattle.register.specs.CpuInterface.{locateCpuInterface}
 use Rattle.register.specs.Distributor.{locateDistributor}
 use Rattle.register.specs.Frame.{bytes}
-use Rattle.register.specs.Ranges.{numberOf}
+use Rattle.register.specs.Ranges.{classNumber}
 use Rattle.word.specs.Fields.{fieldAt}
 use Rattle.state.specs.declared.layout.Shape.{Shape}
 use Rattle.state.specs.Words.{recordAt, sourcesAt}
@@ -49,7 +49,7 @@ gives x (interface.At register) o = acknowledging register && eqb (o .refusal) 0
 
 -- the class c is this one: classes go by their numbers
 abbrev pub isClass : Class → Class → Bool
-isClass this c = eqb (numberOf c) (numberOf this)
+isClass this c = eqb (classNumber c) (classNumber this)
 
 -- n is one of the `count` numbers from `first` up
 abbrev pub among : ℕ → ℕ → ℕ → Bool

@@ -20,7 +20,7 @@ use Rattle.service.specs.Service.{depthAt, running}
 use Rattle.acknowledge.specs.declared.Read.the-variants.{Value, StackFull}
 use Rattle.acknowledge.specs.Acknowledge.{preempting, offer, sourceOf, answered, acknowledge}
 use Rattle.acknowledge.proofs.Offers.{offer-below}
-use Rattle.wake.specs.Wake.{isSpurious, isNumber, someBelow, urgent, ready}
+use Rattle.wake.specs.Wake.{isSpurious, givesNumber, someBelow, urgent, ready}
 
 -- one passes: some do; none passes: none do
 pub some-at : (f : ℕ → Bool) (n i : ℕ) → i < n → f i ≡ true → someBelow f n ≡ true
@@ -85,13 +85,13 @@ module _ (shape : Shape) (v : ℕ) (s : List ℕ) where
         go Nothing p = unfold answered in refl
         go (Best e) p = unfold answered in full (ltb (depthAt shape v s) 255) (e .intid .0 + 1024 * sourceOf shape v (e .intid .0) s) (number-not l e p)
 
-    pub ready-number : isNumber (acknowledge shape v s) ≡ (ready shape v s && ltb (depthAt shape v s) 255)
+    pub ready-number : givesNumber (acknowledge shape v s) ≡ (ready shape v s && ltb (depthAt shape v s) 255)
     ready-number = go (offer shape v s) refl ∙ ap (λ (b : Bool). b && ltb (depthAt shape v s) 255) (sym ready-offer)
       where
-        full : (q : Bool) (x : ℕ) → eqb x 1023 ≡ false → isNumber (cond q (Value x) StackFull) ≡ q
+        full : (q : Bool) (x : ℕ) → eqb x 1023 ≡ false → givesNumber (cond q (Value x) StackFull) ≡ q
         full true x w = ap not w
         full false x w = refl
 
-        go : (b : Selected) → offer shape v s ≡ b → isNumber (answered shape v s b) ≡ (isSome b && ltb (depthAt shape v s) 255)
+        go : (b : Selected) → offer shape v s ≡ b → givesNumber (answered shape v s b) ≡ (isSome b && ltb (depthAt shape v s) 255)
         go Nothing p = unfold answered in refl
         go (Best e) p = unfold answered in full (ltb (depthAt shape v s) 255) (e .intid .0 + 1024 * sourceOf shape v (e .intid .0) s) (number-not l e p)

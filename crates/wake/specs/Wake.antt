@@ -19,24 +19,24 @@ abbrev pub isSpurious : Read → Bool
 isSpurious (Value x) = eqb x 1023
 isSpurious StackFull = false
 
-abbrev pub isNumber : Read → Bool
-isNumber (Value x) = not (eqb x 1023)
-isNumber StackFull = false
+abbrev pub givesNumber : Read → Bool
+givesNumber (Value x) = not (eqb x 1023)
+givesNumber StackFull = false
 
 abbrev pub woken : Shape → List ℕ → List ℕ → ℕ → Bool
-woken shape before after v = isSpurious (acknowledge shape v before) && isNumber (acknowledge shape v after)
+woken shape before after v = isSpurious (acknowledge shape v before) && givesNumber (acknowledge shape v after)
 
 unfoldable pub wakeSet : Shape → List ℕ → List ℕ → ℕ
 wakeSet shape before after = gathered 1 (λ v. bitOf (woken shape before after v)) (shape .count)
 
 -- the two halves of it: before the call the vCPUs that would get 1023 (all eight bits of 255 are asked), after it those of them that would
 -- get a number
-abbrev pub gives : Bool → Shape → List ℕ → ℕ → Bool
-gives false shape s v = isSpurious (acknowledge shape v s)
-gives true shape s v = isNumber (acknowledge shape v s)
+abbrev pub wouldGive : Bool → Shape → List ℕ → ℕ → Bool
+wouldGive false shape s v = isSpurious (acknowledge shape v s)
+wouldGive true shape s v = givesNumber (acknowledge shape v s)
 
 abbrev pub amongGives : Bool → ℕ → Shape → List ℕ → ℕ → Bool
-amongGives number among shape s v = eqb (among / 2 ^ v % 2) 1 && gives number shape s v
+amongGives number among shape s v = eqb (among / 2 ^ v % 2) 1 && wouldGive number shape s v
 
 unfoldable pub givenAmong : Bool → ℕ → Shape → List ℕ → ℕ
 givenAmong number among shape s = gathered 1 (λ v. bitOf (amongGives number among shape s v)) (shape .count)

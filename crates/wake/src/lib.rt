@@ -3,7 +3,7 @@ ghost use mathlib.Core.Path.{_≡_};
 ghost use Prim.Native.Nat.{_*_, _^_, _<_};
 ghost use Rattle.word.specs.Word.{bitOf};
 ghost use Rattle.service.specs.Service.{Served, Sound};
-ghost use Rattle.wake.specs.Wake.{gives, amongGives, givenAmong, quietSet, wakeFrom, ready};
+ghost use Rattle.wake.specs.Wake.{wouldGive, amongGives, givenAmong, quietSet, wakeFrom, ready};
 use acknowledge::offer;
 use interrupt::GicVcpuId;
 use select::Selected;
@@ -25,7 +25,7 @@ fn ready(words: &[u32], shape: Shape, vcpu: GicVcpuId) -> bool
 // An IAR read by `vcpu` would give a number, where `number`, and else 1023.
 fn gives(words: &[u32], shape: Shape, vcpu: GicVcpuId, number: bool) -> bool
     requires { ⌜ Served shape (vcpu .0) (now words) ⌝ }
-    ensures { λ r. ⌜ r ≡ gives number shape (now (words .entry)) (vcpu .0) ⌝ }
+    ensures { λ r. ⌜ r ≡ wouldGive number shape (now (words .entry)) (vcpu .0) ⌝ }
 {
     let some = ready(words, shape, vcpu);
     if number {

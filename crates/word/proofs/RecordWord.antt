@@ -12,7 +12,7 @@ use Rattle.word.proofs.Fields.{Fit, breadth, at, place, packed-fits, fi
 use Rattle.interrupt.specs.Types.{isLevel}
 use Rattle.word.specs.Fields.{bits, field, packed}
 use Rattle.interrupt.specs.Record.{made}
-use Rattle.word.specs.Word.{flag, triggerOf, maskOf, ownerOf, recordOf, bitOf, isSet, maskByte, ownerByte, fieldsOf, wordOf, ownerInRange, InRange, Canonical}
+use Rattle.word.specs.Word.{flag, triggerOf, maskOf, ownerOf, recordOf, bitOf, isSet, maskByte, ownerByte, fieldsOf, wordOf, ownerInRange, InRange, CanonicalRecord}
 use Rattle.interrupt.specs.declared.types.TriggerMode.{TriggerMode}
 use Rattle.interrupt.specs.declared.types.TriggerMode.the-variants.{Level, Edge}
 use Rattle.interrupt.specs.declared.record.CpuTargetMask.{CpuTargetMask}
@@ -135,7 +135,7 @@ widths : List ℕ
 widths = 1 ∷ 1 ∷ 1 ∷ 1 ∷ 1 ∷ 1 ∷ 1 ∷ 1 ∷ 8 ∷ 8 ∷ 8 ∷ []
 
 -- the fields of what a canonical word means are the word's own
-fields-again : (w : ℕ) → Canonical w → fieldsOf (recordOf w) ≡ fieldsFrom 0 widths w
+fields-again : (w : ℕ) → CanonicalRecord w → fieldsOf (recordOf w) ≡ fieldsFrom 0 widths w
 unfolding recordOf fieldsFrom widths
 fields-again w h = λ i.
     bits 1 (again 0 i)
@@ -155,7 +155,7 @@ fields-again w h = λ i.
     again k = bit-again (field k 1 w) (omega arith)
 
 -- encoding what a canonical word means gives the word back
-pub encode-decode : (w : ℕ) → Canonical w → wordOf (recordOf w) ≡ w
+pub encode-decode : (w : ℕ) → CanonicalRecord w → wordOf (recordOf w) ≡ w
 unfolding wordOf sum widths
 encode-decode w h = ap packed (fields-again w h) ∙ packed-fields 0 widths w ∙ rw div-one (mod-eq-of-lt (h .fits))
 
@@ -164,7 +164,7 @@ unset-byte Unset e = refl
 unset-byte (Mask byte) e = absurd (true≢false e)
 
 -- an encoded record is a canonical word
-pub encoded-canonical : (r : InterruptRecord) → InRange r → Canonical (wordOf r)
+pub encoded-canonical : (r : InterruptRecord) → InRange r → CanonicalRecord (wordOf r)
 unfolding at place
 encoded-canonical r h = record {
   fits = word-fits r h;

@@ -86,6 +86,6 @@ pub record InRange (r : InterruptRecord) : Type 0 where
   pub owner-byte : ownerInRange (r .owner)
 
 -- a word as we write it: 32 bits, and no mask where none is set
-pub record Canonical (w : ℕ) : Type 0 where
+pub record CanonicalRecord (w : ℕ) : Type 0 where
   pub fits : w < 2 ^ 32
   pub unset : flag 7 w ≡ false → field 16 8 w ≡ 0

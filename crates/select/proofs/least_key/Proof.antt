@@ -5,14 +5,14 @@ use Prim.Native.Nat.{ℕ, suc, _+_, _≤_, _-_}
 use mathlib.Core.Path.{_≡_, _∙_}
 use native.Mathlib.Nat.{sub-self}
 use native.Mathlib.Omega.{arith}
-use Rattle.select.specs.Keys.{withRecord, leastKey}
+use Rattle.select.specs.Keys.{withWord, leastKey}
 use borrow.Author.Needs.{needs}
 use Rattle.select.proofs.least_key.Statement.{statement}
 use Rattle.select.proofs.least_key.Tie as tie
 
 -- a turn of the loop is a step of the definition
 one-more : (needed offset first n : ℕ) (s : List ℕ) (start : ℕ) → first ≤ n
-    → withRecord needed n (getD s (offset + n) 0) (leastKey needed offset first s start (n - first)) ≡ leastKey needed offset first s start (n + 1 - first)
+    → withWord needed n (getD s (offset + n) 0) (leastKey needed offset first s start (n - first)) ≡ leastKey needed offset first s start (n + 1 - first)
 unfolding leastKey
 one-more needed offset first n s start h =
     let next : n + 1 - first ≡ suc (n - first) = omega arith in

@@ -1,5 +1,5 @@
 -- `vgic::packed` meets its contract. Assumes nothing.
-use Rattle.vgic.specs.Packed.{packed}
+use Rattle.vgic.specs.Packed.{packedAnswer}
 use borrow.Author.Needs.{needs}
 use Rattle.vgic.proofs.packed.Statement.{statement}
 use Rattle.vgic.proofs.packed.Tie as tie
@@ -47,7 +47,7 @@ add-result-3 : tie.Need-add-result-3
 add-result-3 c = search needs
 
 returns : tie.Need-returns
-unfolding packed
+unfolding packedAnswer
 returns c = λ s. simp (c .before .before .before .value .ensures, c .before .before .retired .ensures, c .before .wake .ensures, c .refusal .ensures)
 
 pub packed-spec : {M : Type 1} → statement M

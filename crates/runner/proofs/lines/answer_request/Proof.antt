@@ -1,6 +1,6 @@
 -- `runner::answer_request` meets its contract. Assumes nothing.
 use mathlib.Core.Path.{refl}
-use Rattle.runner.specs.Runner.{called}
+use Rattle.runner.specs.Runner.{requestPrinted}
 use Rattle.runner.proofs.Printing.{prints}
 use borrow.Author.Needs.{needs}
 use Rattle.runner.proofs.lines.answer_request.Statement.{statement}
@@ -82,7 +82,7 @@ same-length-2 : tie.Need-same-length-2
 same-length-2 c = search needs
 
 returns : tie.Need-returns
-unfolding called
+unfolding requestPrinted
 returns c = rw (c .before .before .before .before .before .before .before .before .before .request .given .1) (prints (c .before .before .before .before .before .setup .result) (c .before .before .before .before .before .setup .last .0) (c .before .before .before .before .before .setup .ensures) (c .before .before .put .ensures))
 
 same-length-3 : tie.Need-same-length-3
@@ -92,7 +92,7 @@ same-length-4 : tie.Need-same-length-4
 same-length-4 c = search needs
 
 returns-2 : tie.Need-returns-2
-unfolding called
+unfolding requestPrinted
 returns-2 c = rw (c .before .before .before .before .before .before .before .request2 .given .1) (prints (c .before .before .before .read-v2-distributor .result) _ (c .before .before .before .read-v2-distributor .ensures) (c .before .before .put2 .ensures))
 
 same-length-5 : tie.Need-same-length-5
@@ -102,7 +102,7 @@ same-length-6 : tie.Need-same-length-6
 same-length-6 c = search needs
 
 returns-3 : tie.Need-returns-3
-unfolding called
+unfolding requestPrinted
 returns-3 c = rw (c .before .before .before .before .before .before .before .before .before .request3 .given .1) (prints (c .before .before .before .before .before .write-v2-distributor .result) (c .before .before .before .before .before .write-v2-distributor .last .0) (c .before .before .before .before .before .write-v2-distributor .ensures) (c .before .before .put3 .ensures))
 
 same-length-7 : tie.Need-same-length-7
@@ -112,7 +112,7 @@ same-length-8 : tie.Need-same-length-8
 same-length-8 c = search needs
 
 returns-4 : tie.Need-returns-4
-unfolding called
+unfolding requestPrinted
 returns-4 c = rw (c .before .before .before .before .before .before .before .before .before .request4 .given .1) (prints (c .before .before .before .before .before .read-v2-cpu-interface .result) (c .before .before .before .before .before .read-v2-cpu-interface .last .0) (c .before .before .before .before .before .read-v2-cpu-interface .ensures) (c .before .before .put4 .ensures))
 
 same-length-9 : tie.Need-same-length-9
@@ -122,7 +122,7 @@ same-length-10 : tie.Need-same-length-10
 same-length-10 c = search needs
 
 returns-5 : tie.Need-returns-5
-unfolding called
+unfolding requestPrinted
 returns-5 c = rw (c .before .before .before .before .before .before .before .before .before .request5 .given .1) (prints (c .before .before .before .before .before .write-v2-cpu-interface .result) (c .before .before .before .before .before .write-v2-cpu-interface .last .0) (c .before .before .before .before .before .write-v2-cpu-interface .ensures) (c .before .before .put5 .ensures))
 
 same-length-11 : tie.Need-same-length-11
@@ -132,7 +132,7 @@ same-length-12 : tie.Need-same-length-12
 same-length-12 c = search needs
 
 returns-6 : tie.Need-returns-6
-unfolding called
+unfolding requestPrinted
 returns-6 c = rw (c .before .before .before .before .before .before .before .before .before .request6 .given .1) (prints (c .before .before .before .before .before .set-level .result) (c .before .before .before .before .before .set-level .last .0) (c .before .before .before .before .before .set-level .ensures) (c .before .before .put6 .ensures))
 
 same-length-13 : tie.Need-same-length-13
@@ -142,14 +142,14 @@ same-length-14 : tie.Need-same-length-14
 same-length-14 c = search needs
 
 returns-7 : tie.Need-returns-7
-unfolding called
+unfolding requestPrinted
 returns-7 c = rw (c .before .before .before .before .before .before .before .before .before .request7 .given .1) (prints (c .before .before .before .before .before .pulse .result) (c .before .before .before .before .before .pulse .last .0) (c .before .before .before .before .before .pulse .ensures) (c .before .before .put7 .ensures))
 
 same-length-15 : tie.Need-same-length-15
 same-length-15 c = search needs
 
 returns-8 : tie.Need-returns-8
-unfolding called
+unfolding requestPrinted
 returns-8 c = rw (c .before .before .before .before .enum-told .given .1) (record { state = refl; put = c .before .before .put-unknown .ensures })
 
 pub answer-request-spec : {M : Type 1} → statement M
