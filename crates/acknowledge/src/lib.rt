@@ -79,7 +79,7 @@ fn sgi_source(words: &[u32], shape: Shape, vcpu: GicVcpuId, intid: IntId) -> Gic
     requires { ⌜ Reached shape (vcpu .0) (intid .0) (now words) ⌝ }
     ensures { λ r. ⌜ (r .0 ≡ sourceOf shape (vcpu .0) (intid .0) (now (words .entry))) × (r .0 < 8) ⌝ }
 {
-    if intid.0 < 16 {
+    if intid.is_sgi() {
         lowest_source(sgi_sources(words, shape, vcpu, intid))
     } else {
         GicVcpuId(0)
@@ -106,7 +106,7 @@ fn take_sgi_source(
     requires { ⌜ (Reached shape (vcpu .0) (intid .0) (now words)) × (source .0 < 8) ⌝ }
     ensures { λ r. ⌜ now (words .exit) ≡ sourceTaken shape (vcpu .0) (intid .0) (source .0) (now (words .entry)) ⌝ }
 {
-    if intid.0 < 16 {
+    if intid.is_sgi() {
         let left = sgi_sources(words, shape, vcpu, intid) & !vcpu_bit(source);
         leave_sources(words, shape, vcpu, intid, left);
     }

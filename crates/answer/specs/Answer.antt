@@ -1,6 +1,7 @@
 -- What a public call comes to: document 01, "Refusal numbers" ("Each leaves all lent state as found"; "Order: 6, then 1, then 2, then 3, then
 -- 7") and "The runner's lines" ("refusal, value, wake set and retired number (1023 for none)"). A call's promise is one equation between
 -- its outcome and a definition in its own crate.
+use mathlib.Core.Path.{_≡_}
 use mathlib.Core.Bool.{Bool, cond, _&&_}
 use mathlib.Core.List.{List}
 use Prim.Native.Nat.{ℕ}
@@ -42,6 +43,10 @@ retiredIn (Refused r) = 1023
 
 abbrev pub outcome : Answer → List ℕ → Outcome
 outcome a s = record { refusal = refusalIn a; value = valueIn a; wake = wakeIn a; retired = retiredIn a; state = s }
+
+-- "Prove any two outcomes it admits equal": of a promise, which is of an answer and the words after the call
+abbrev pub AdmitsOne : {A : Type 0} → (A → List ℕ → Type 0) → Type 0
+AdmitsOne {A} Promise = (a b : A) (x y : List ℕ) → Promise a x → Promise b y → (a ≡ b) × (x ≡ y)
 
 -- a refusal: value 0, nobody woken, nothing retired, the state as found
 abbrev pub refused : Refusal → List ℕ → Outcome

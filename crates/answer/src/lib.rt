@@ -3,7 +3,7 @@ ghost use mathlib.Core.Path.{_≡_};
 ghost use mathlib.Core.List.{List};
 ghost use Prim.Native.Nat.{ℕ};
 ghost use Rattle.service.specs.Service.{Sound};
-ghost use Rattle.wake.specs.Wake.{wakeFrom};
+ghost use Rattle.wake.specs.Halves.{wakeFrom};
 ghost use Rattle.answer.specs.Answer.{refusalIn, valueIn, wakeIn, retiredIn, outcome, gave, done, absent};
 use interrupt::GicVcpuId;
 use interrupt::IntId;
@@ -58,7 +58,7 @@ impl Answer {
     {
         match self {
             Answer::Done(reply) => reply.retired.0,
-            Answer::Refused(_) => 1023,
+            Answer::Refused(_) => IntId::SPURIOUS.0,
         }
     }
 }

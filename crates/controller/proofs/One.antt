@@ -1,4 +1,4 @@
--- Each call's promise admits one outcome: two answers and states that it allows for the same inputs are the same answer, case by case and
+-- Each call's promise, as its `ensures` has it, admits one outcome: two answers and states that it allows for the same inputs are the same answer, case by case and
 -- number by number, and the same words. Assumes nothing.
 use mathlib.Core.Path.{_≡_, refl, sym, ap, _∙_}
 use mathlib.Core.Bool.{Bool, cond}
@@ -13,11 +13,11 @@ use Rattle.register.specs.Frame.{refusalNumber}
 use Rattle.answer.specs.declared.Answer.{Answer}
 use Rattle.answer.specs.declared.Answer.the-variants.{Done, Refused}
 use Rattle.answer.specs.declared.Reply.{Reply}
-use Rattle.answer.specs.Answer.{Outcome, outcome}
-use Rattle.controller.specs.Start.{setup}
-use Rattle.distributor_frame.specs.DistributorFrame.{readV2Distributor, writeV2Distributor}
-use Rattle.cpu_interface_frame.specs.CpuInterfaceFrame.{readV2CpuInterface, writeV2CpuInterface}
-use Rattle.input.specs.Input.{deviceLevel, devicePulse}
+use Rattle.answer.specs.Answer.{Outcome, outcome, AdmitsOne}
+use Rattle.controller.specs.Start.{setup, SetupPromise}
+use Rattle.distributor_frame.specs.DistributorFrame.{readV2Distributor, writeV2Distributor, ReadDistributorPromise, WriteDistributorPromise}
+use Rattle.cpu_interface_frame.specs.CpuInterfaceFrame.{readV2CpuInterface, writeV2CpuInterface, ReadCpuInterfacePromise, WriteCpuInterfacePromise}
+use Rattle.input.specs.Input.{deviceLevel, devicePulse, SetLevelPromise, PulsePromise}
 
 -- a refusal is known by its number, and no number is 0
 numbered : (r q : Refusal) → refusalNumber r ≡ refusalNumber q → r ≡ q
@@ -68,34 +68,27 @@ same-answer (Done r) (Refused q) x y p = absurd (some-number q (ap (λ (o : Outc
 same-answer (Refused r) (Done q) x y p = absurd (some-number r (sym (ap (λ (o : Outcome). o .refusal) p)))
 same-answer (Refused r) (Refused q) x y p = ap Refused (numbered r q (ap (λ (o : Outcome). o .refusal) p))
 
--- what a promise admits for a meaning
-pub record Admitted (meaning : Outcome) (a : Answer) (s : List ℕ) : Type 0 where
-  pub meant : outcome a s ≡ meaning
+-- two answers and states of one meaning
+one : (meaning : Outcome) (a b : Answer) (x y : List ℕ) → outcome a x ≡ meaning → outcome b y ≡ meaning → (a ≡ b) × (x ≡ y)
+one meaning a b x y p q = let e : outcome a x ≡ outcome b y = p ∙ sym q in (same-answer a b x y e, ap (λ (o : Outcome). o .state) e)
 
--- one outcome
-abbrev pub One : Outcome → Type 0
-One meaning = (a b : Answer) (x y : List ℕ) → Admitted meaning a x → Admitted meaning b y → (a ≡ b) × (x ≡ y)
-
-one : (meaning : Outcome) → One meaning
-one meaning a b x y p q = let e : outcome a x ≡ outcome b y = p .meant ∙ sym (q .meant) in (same-answer a b x y e, ap (λ (o : Outcome). o .state) e)
-
-pub setup-one : (count limit : ℕ) (s : List ℕ) → One (setup count limit s)
+pub setup-one : (count limit : ℕ) (s : List ℕ) → AdmitsOne (SetupPromise count limit s)
 setup-one count limit s = one (setup count limit s)
 
-pub read-v2-distributor-one : (v offset : ℕ) (width : AccessWidth) (s : List ℕ) → One (readV2Distributor v offset width s)
+pub read-v2-distributor-one : (v offset : ℕ) (width : AccessWidth) (s : List ℕ) → AdmitsOne (ReadDistributorPromise v offset width s)
 read-v2-distributor-one v offset width s = one (readV2Distributor v offset width s)
 
-pub write-v2-distributor-one : (v offset : ℕ) (width : AccessWidth) (value : ℕ) (s : List ℕ) → One (writeV2Distributor v offset width value s)
+pub write-v2-distributor-one : (v offset : ℕ) (width : AccessWidth) (value : ℕ) (s : List ℕ) → AdmitsOne (WriteDistributorPromise v offset width value s)
 write-v2-distributor-one v offset width value s = one (writeV2Distributor v offset width value s)
 
-pub read-v2-cpu-interface-one : (v offset : ℕ) (width : AccessWidth) (s : List ℕ) → One (readV2CpuInterface v offset width s)
+pub read-v2-cpu-interface-one : (v offset : ℕ) (width : AccessWidth) (s : List ℕ) → AdmitsOne (ReadCpuInterfacePromise v offset width s)
 read-v2-cpu-interface-one v offset width s = one (readV2CpuInterface v offset width s)
 
-pub write-v2-cpu-interface-one : (v offset : ℕ) (width : AccessWidth) (value : ℕ) (s : List ℕ) → One (writeV2CpuInterface v offset width value s)
+pub write-v2-cpu-interface-one : (v offset : ℕ) (width : AccessWidth) (value : ℕ) (s : List ℕ) → AdmitsOne (WriteCpuInterfacePromise v offset width value s)
 write-v2-cpu-interface-one v offset width value s = one (writeV2CpuInterface v offset width value s)
 
-pub set-level-one : (v n : ℕ) (asserted : Bool) (s : List ℕ) → One (deviceLevel v n asserted s)
+pub set-level-one : (v n : ℕ) (asserted : Bool) (s : List ℕ) → AdmitsOne (SetLevelPromise v n asserted s)
 set-level-one v n asserted s = one (deviceLevel v n asserted s)
 
-pub pulse-one : (v n : ℕ) (s : List ℕ) → One (devicePulse v n s)
+pub pulse-one : (v n : ℕ) (s : List ℕ) → AdmitsOne (PulsePromise v n s)
 pulse-one v n s = one (devicePulse v n s)

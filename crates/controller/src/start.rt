@@ -1,7 +1,5 @@
 // Setup: a fresh controller in lent words.
-ghost use mathlib.Core.Path.{_≡_};
-ghost use Rattle.answer.specs.Answer.{outcome};
-ghost use Rattle.controller.specs.Start.{setup};
+ghost use Rattle.controller.specs.Start.{SetupPromise};
 use answer::Answer;
 use answer::gave;
 use register::Refusal;
@@ -10,7 +8,7 @@ use state::fresh::fill;
 use state::lent::validate_limits;
 
 pub fn setup(words: &mut [u32], count: u64, limit: u64) -> Answer
-    ensures { λ r. ⌜ outcome r (now (words .exit)) ≡ setup count limit (now (words .entry)) ⌝ }
+    ensures { λ r. ⌜ SetupPromise count limit (now (words .entry)) r (now (words .exit)) ⌝ }
 {
     let Limited::Within(shape) = validate_limits(count, limit) else {
         return Answer::Refused(Refusal::Limits);

@@ -4,6 +4,7 @@ ghost use Rattle.cpu_interface.specs.CpuInterface.{readRegister, afterRe
 use acknowledge::Read;
 use acknowledge::acknowledge_v2;
 use distributor::values::iidr;
+use end::decode_eoi_intid;
 use end::dir_v2;
 use end::eoi_v2;
 use interrupt::GicVcpuId;
@@ -42,7 +43,7 @@ pub fn read_looks_up(register: CpuInterfaceRegister, enabled: bool) -> bool
 fn decodes(value: u32) -> bool
     ensures { λ r. ⌜ r ≡ decodes value ⌝ }
 {
-    value % 1024 < 1020
+    decode_eoi_intid(value).is_valid()
 }
 
 pub fn write_looks_up(register: CpuInterfaceRegister, value: u32) -> bool

@@ -1,5 +1,6 @@
 -- The frame of a CPU interface: document 01, "Refusal numbers" and "CPU interface places". An acknowledge that is refused by 7 leaves the
 -- state as found.
+use mathlib.Core.Path.{_≡_}
 use mathlib.Core.List.{List}
 use Prim.Native.Nat.{ℕ, _%_, _^_}
 use Rattle.register.specs.declared.frame.AccessWidth.{AccessWidth}
@@ -14,7 +15,8 @@ use Rattle.state.specs.Words.{enabledAt}
 use Rattle.acknowledge.specs.declared.Read.{Read}
 use Rattle.acknowledge.specs.declared.Read.the-variants.{Value, StackFull}
 use Rattle.cpu_interface.specs.CpuInterface.{readRegister, afterRead, writeRegister, writeRetired, readRegisterLooksUp, writeRegisterLooksUp}
-use Rattle.answer.specs.Answer.{Outcome, refused, gave, went, onState, lookedUp}
+use Rattle.answer.specs.declared.Answer.{Answer}
+use Rattle.answer.specs.Answer.{Outcome, outcome, refused, gave, went, onState, lookedUp}
 
 -- what was read in the state s, which is r afterwards
 abbrev pub readAnswer : Read → List ℕ → List ℕ → Outcome
@@ -42,3 +44,10 @@ readV2CpuInterface v offset width s = onState (validated s) s (λ shape. readInt
 
 unfoldable pub writeV2CpuInterface : ℕ → ℕ → AccessWidth → ℕ → List ℕ → Outcome
 writeV2CpuInterface v offset width value s = onState (validated s) s (λ shape. writeInterfaceAccess shape v (locateCpuInterface offset width) (value % 2 ^ 32) s)
+
+-- what the calls promise of their answer and the words after it
+abbrev pub ReadCpuInterfacePromise : ℕ → ℕ → AccessWidth → List ℕ → Answer → List ℕ → Type 0
+ReadCpuInterfacePromise v offset width before answer after = outcome answer after ≡ readV2CpuInterface v offset width before
+
+abbrev pub WriteCpuInterfacePromise : ℕ → ℕ → AccessWidth → ℕ → List ℕ → Answer → List ℕ → Type 0
+WriteCpuInterfacePromise v offset width value before answer after = outcome answer after ≡ writeV2CpuInterface v offset width value before

@@ -2,7 +2,7 @@
 ghost use mathlib.Core.Path.{_≡_};
 ghost use Rattle.service.specs.Service.{Sound};
 ghost use Rattle.answer.specs.Answer.{outcome};
-ghost use Rattle.cpu_interface_frame.specs.CpuInterfaceFrame.{readInterfaceAt, writeInterfaceAt, readV2CpuInterface, writeV2CpuInterface};
+ghost use Rattle.cpu_interface_frame.specs.CpuInterfaceFrame.{readInterfaceAt, writeInterfaceAt, ReadCpuInterfacePromise, WriteCpuInterfacePromise};
 use acknowledge::Read;
 use answer::Answer;
 use answer::absent;
@@ -49,7 +49,7 @@ pub fn read_v2_cpu_interface(
     offset: u64,
     width: AccessWidth,
 ) -> Answer
-    ensures { λ r. ⌜ outcome r (now (words .exit)) ≡ readV2CpuInterface (vcpu .0) offset width (now (words .entry)) ⌝ }
+    ensures { λ r. ⌜ ReadCpuInterfacePromise (vcpu .0) offset width (now (words .entry)) r (now (words .exit)) ⌝ }
 {
     let Lent::Sound(shape) = validate_state(words) else {
         return Answer::Refused(Refusal::BrokenState);
@@ -85,7 +85,7 @@ pub fn write_v2_cpu_interface(
     width: AccessWidth,
     value: u64,
 ) -> Answer
-    ensures { λ r. ⌜ outcome r (now (words .exit)) ≡ writeV2CpuInterface (vcpu .0) offset width value (now (words .entry)) ⌝ }
+    ensures { λ r. ⌜ WriteCpuInterfacePromise (vcpu .0) offset width value (now (words .entry)) r (now (words .exit)) ⌝ }
 {
     let Lent::Sound(shape) = validate_state(words) else {
         return Answer::Refused(Refusal::BrokenState);

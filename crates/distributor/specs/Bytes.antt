@@ -4,6 +4,7 @@ use mathlib.Core.Bool.{true, false, cond}
 use mathlib.Core.List.{List}
 use Prim.Native.Nat.{ℕ, _+_, _≤_, _<_}
 use lib.Dec.{ltb}
+use Rattle.interrupt.specs.Types.{priorityOf}
 use Rattle.interrupt.specs.Record.{setPriority}
 use Rattle.register.specs.declared.ranges.ByteRegister.{ByteRegister}
 use Rattle.register.specs.declared.ranges.ByteRegister.the-variants.{Ipriorityr, Itargetsr, Cpendsgir, Spendsgir}
@@ -20,7 +21,7 @@ unfoldable pub readPriority : Shape → ℕ → List ℕ → ℕ → ℕ
 readPriority shape v s n = cond (ltb n (shape .limit)) (recordAt shape v n s .priority .0) 0
 
 unfoldable pub writePriority : Shape → ℕ → ℕ → ℕ → List ℕ → List ℕ
-writePriority shape v n byte s = cond (ltb n (shape .limit)) (changed shape v n (λ r. setPriority r (record { 0 = byte })) s) s
+writePriority shape v n byte s = cond (ltb n (shape .limit)) (changed shape v n (λ r. setPriority r (priorityOf byte)) s) s
 
 -- "CPENDSGIR and SPENDSGIR read the source bits"
 abbrev pub readByte : Shape → ByteRegister → ℕ → List ℕ → ℕ → ℕ

@@ -33,7 +33,7 @@ fn write_priority(words: &mut [u32], shape: Shape, vcpu: GicVcpuId, intid: IntId
     if shape.limit <= intid.0 {
         return;
     }
-    let changed = record(words, shape, vcpu, intid).set_priority(Priority(byte));
+    let changed = record(words, shape, vcpu, intid).set_priority(Priority::new(byte));
     put_record(words, shape, vcpu, intid, changed);
 }
 

@@ -1,6 +1,7 @@
 -- The Distributor's frame: document 01, "Refusal numbers" ("One exception, from the Rust: at private registers 3 comes before 2") and
 -- "Distributor places". "Bits of a written value above the access width are ignored": registers take 4 bytes at most, and a byte array takes
 -- as many bytes as the access is wide.
+use mathlib.Core.Path.{_≡_}
 use mathlib.Core.Bool.{true}
 use mathlib.Core.List.{List}
 use Prim.Native.Nat.{ℕ, _%_, _^_}
@@ -13,7 +14,8 @@ use Rattle.register.specs.Distributor.{locateDistributor}
 use Rattle.state.specs.declared.layout.Shape.{Shape}
 use Rattle.state.specs.Lent.{validated}
 use Rattle.places.specs.Places.{readPlaceLooksUp, writePlaceLooksUp, readPlace, writePlace}
-use Rattle.answer.specs.Answer.{Outcome, refused, gave, went, onState, lookedUp}
+use Rattle.answer.specs.declared.Answer.{Answer}
+use Rattle.answer.specs.Answer.{Outcome, outcome, refused, gave, went, onState, lookedUp}
 
 abbrev pub privateWidth : Shape → ℕ → List ℕ → Outcome
 privateWidth shape v s = lookedUp true shape v s (refused refusal.Width s)
@@ -40,3 +42,10 @@ readV2Distributor v offset width s = onState (validated s) s (λ shape. readDist
 
 unfoldable pub writeV2Distributor : ℕ → ℕ → AccessWidth → ℕ → List ℕ → Outcome
 writeV2Distributor v offset width value s = onState (validated s) s (λ shape. writeDistributorAccess shape v (locateDistributor offset width) width (value % 2 ^ 32) s)
+
+-- what the calls promise of their answer and the words after it
+abbrev pub ReadDistributorPromise : ℕ → ℕ → AccessWidth → List ℕ → Answer → List ℕ → Type 0
+ReadDistributorPromise v offset width before answer after = outcome answer after ≡ readV2Distributor v offset width before
+
+abbrev pub WriteDistributorPromise : ℕ → ℕ → AccessWidth → ℕ → List ℕ → Answer → List ℕ → Type 0
+WriteDistributorPromise v offset width value before answer after = outcome answer after ≡ writeV2Distributor v offset width value before

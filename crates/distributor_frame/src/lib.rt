@@ -5,7 +5,7 @@ ghost use Prim.Native.Nat.{ℕ};
 ghost use Rattle.service.specs.Service.{Sound};
 ghost use Rattle.places.specs.Places.{Located};
 ghost use Rattle.answer.specs.Answer.{outcome};
-ghost use Rattle.distributor_frame.specs.DistributorFrame.{privateWidth, readDistributorAt, writeDistributorAt, readV2Distributor, writeV2Distributor};
+ghost use Rattle.distributor_frame.specs.DistributorFrame.{privateWidth, readDistributorAt, writeDistributorAt, ReadDistributorPromise, WriteDistributorPromise};
 use answer::Answer;
 use answer::absent;
 use answer::done;
@@ -53,7 +53,7 @@ pub fn read_v2_distributor(
     offset: u64,
     width: AccessWidth,
 ) -> Answer
-    ensures { λ r. ⌜ outcome r (now (words .entry)) ≡ readV2Distributor (vcpu .0) offset width (now (words .entry)) ⌝ }
+    ensures { λ r. ⌜ ReadDistributorPromise (vcpu .0) offset width (now (words .entry)) r (now (words .entry)) ⌝ }
 {
     let Lent::Sound(shape) = validate_state(words) else {
         return Answer::Refused(Refusal::BrokenState);
@@ -91,7 +91,7 @@ pub fn write_v2_distributor(
     width: AccessWidth,
     value: u64,
 ) -> Answer
-    ensures { λ r. ⌜ outcome r (now (words .exit)) ≡ writeV2Distributor (vcpu .0) offset width value (now (words .entry)) ⌝ }
+    ensures { λ r. ⌜ WriteDistributorPromise (vcpu .0) offset width value (now (words .entry)) r (now (words .exit)) ⌝ }
 {
     let Lent::Sound(shape) = validate_state(words) else {
         return Answer::Refused(Refusal::BrokenState);

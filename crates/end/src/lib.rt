@@ -16,7 +16,7 @@ use state::words::interface_value;
 use state::words::put_record;
 use state::words::record;
 
-fn decode_eoi_intid(value: u32) -> DecodedIntId
+pub fn decode_eoi_intid(value: u32) -> DecodedIntId
     ensures { λ r. ⌜ r ≡ decodedEoi value ⌝ }
 {
     IntId::new(value % 1024)

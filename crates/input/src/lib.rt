@@ -3,7 +3,7 @@ ghost use mathlib.Core.Path.{_≡_};
 ghost use Rattle.state.specs.Words.{Reached, changed};
 ghost use Rattle.service.specs.Service.{Sound};
 ghost use Rattle.answer.specs.Answer.{outcome};
-ghost use Rattle.input.specs.Input.{signalled, inputOf, inputAt, deviceInput, deviceLevel, devicePulse};
+ghost use Rattle.input.specs.Input.{signalled, inputOf, inputAt, deviceInput, SetLevelPromise, PulsePromise};
 use answer::Answer;
 use answer::absent;
 use answer::done;
@@ -44,13 +44,14 @@ fn signalled(record: InterruptRecord, signal: Signal) -> InterruptRecord
 fn input_number(shape: Shape, number: u64) -> InputNumber
     ensures { λ r. ⌜ r ≡ inputOf shape number ⌝ }
 {
-    if number < 16 {
+    if shape.limit as u64 <= number {
         return InputNumber::Outside;
     }
-    if number < shape.limit as u64 {
-        InputNumber::Device(IntId(number as u32))
-    } else {
+    let intid = IntId(number as u32);
+    if intid.is_sgi() {
         InputNumber::Outside
+    } else {
+        InputNumber::Device(intid)
     }
 }
 
@@ -69,7 +70,7 @@ fn input_at(words: &mut [u32], shape: Shape, vcpu: GicVcpuId, number: u64, signa
     let InputNumber::Device(intid) = input_number(shape, number) else {
         return Answer::Refused(Refusal::Input);
     };
-    if absent(shape, vcpu, intid.0 < 32) {
+    if absent(shape, vcpu, intid.is_private()) {
         return Answer::Refused(Refusal::Vcpu);
     }
     let quiet = quiet_vcpus(words, shape);
@@ -87,13 +88,13 @@ fn device_input(words: &mut [u32], vcpu: GicVcpuId, number: u64, signal: Signal)
 }
 
 pub fn set_level(words: &mut [u32], vcpu: GicVcpuId, number: u64, asserted: bool) -> Answer
-    ensures { λ r. ⌜ outcome r (now (words .exit)) ≡ deviceLevel (vcpu .0) number asserted (now (words .entry)) ⌝ }
+    ensures { λ r. ⌜ SetLevelPromise (vcpu .0) number asserted (now (words .entry)) r (now (words .exit)) ⌝ }
 {
     device_input(words, vcpu, number, Signal::Level(asserted))
 }
 
 pub fn pulse(words: &mut [u32], vcpu: GicVcpuId, number: u64) -> Answer
-    ensures { λ r. ⌜ outcome r (now (words .exit)) ≡ devicePulse (vcpu .0) number (now (words .entry)) ⌝ }
+    ensures { λ r. ⌜ PulsePromise (vcpu .0) number (now (words .entry)) r (now (words .exit)) ⌝ }
 {
     device_input(words, vcpu, number, Signal::Edge)
 }

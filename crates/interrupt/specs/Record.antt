@@ -1,71 +1,37 @@
 -- One interrupt's record and its transitions. Document 01, "Port order" 1: "All its transitions exactly as the Rust, less routes", so each
 -- definition stands beside the function of interrupt.rs that its comment names, line by line; what the states mean is IHI 0048's "Interrupt
--- handling state machine", and the registers that its comment names are IHI 0048's that reach it. A chain of `with..` is read from the inside: it says field by field what is new, and all else stays.
+-- handling state machine", and the registers that its comment names are IHI 0048's that reach it. A chain of `with..` (With.antt) is read from
+-- the inside: it says field by field what is new, and all else stays.
 -- Left out on purpose: the interrupt's number, which is the record's place in the lent state, and the affinity route.
 use mathlib.Core.Bool.{Bool, true, false, not, cond, _&&_, _||_}
 use Prim.Native.Nat.{ℕ}
 use Rattle.interrupt.specs.Types.{isSgi, isLevel, startingTrigger, pendingIn, activeIn}
+use Rattle.interrupt.specs.With.{withEnabled, withPending, withActive, withInflight, withRedelivery, withLine, withPriority, withTrigger, withMask, withOwner}
 use Rattle.interrupt.specs.declared.types.IntId.{IntId}
 use Rattle.interrupt.specs.declared.types.Priority.{Priority}
 use Rattle.interrupt.specs.declared.types.TriggerMode.{TriggerMode}
 use Rattle.interrupt.specs.declared.types.InterruptState.{InterruptState}
 use Rattle.interrupt.specs.declared.types.InterruptState.the-variants.{Inactive, Pending, Active, ActivePending}
-use Rattle.interrupt.specs.declared.record.CpuTargetMask.{CpuTargetMask}
 use Rattle.interrupt.specs.declared.record.CpuTargetMask.the-variants.{Unset, Mask}
 use Rattle.interrupt.specs.declared.record.Owner.{Owner}
 use Rattle.interrupt.specs.declared.record.Owner.the-variants.{Nobody}
 use Rattle.interrupt.specs.declared.record.InterruptRecord.{InterruptRecord}
 use Rattle.interrupt.specs.declared.record.Synchronized.{Synchronized}
 
--- a record by its fields, in their order
-abbrev pub made : Bool → Bool → Bool → Bool → Bool → Bool → Priority → TriggerMode → CpuTargetMask → Owner → InterruptRecord
-made e p a i d l q t m o = record {
-  enabled = e;
-  pending = p;
-  active = a;
-  inflight = i;
-  «redelivery_pending» = d;
-  «line_asserted» = l;
-  priority = q;
-  trigger = t;
-  «cpu_target_mask» = m;
-  owner = o;
-}
-
--- the record r with one field new
-abbrev pub withEnabled : Bool → InterruptRecord → InterruptRecord
-withEnabled x r = made x (r .pending) (r .active) (r .inflight) (r .«redelivery_pending») (r .«line_asserted») (r .priority) (r .trigger) (r .«cpu_target_mask») (r .owner)
-
-abbrev pub withPending : Bool → InterruptRecord → InterruptRecord
-withPending x r = made (r .enabled) x (r .active) (r .inflight) (r .«redelivery_pending») (r .«line_asserted») (r .priority) (r .trigger) (r .«cpu_target_mask») (r .owner)
-
-abbrev pub withActive : Bool → InterruptRecord → InterruptRecord
-withActive x r = made (r .enabled) (r .pending) x (r .inflight) (r .«redelivery_pending») (r .«line_asserted») (r .priority) (r .trigger) (r .«cpu_target_mask») (r .owner)
-
-abbrev pub withInflight : Bool → InterruptRecord → InterruptRecord
-withInflight x r = made (r .enabled) (r .pending) (r .active) x (r .«redelivery_pending») (r .«line_asserted») (r .priority) (r .trigger) (r .«cpu_target_mask») (r .owner)
-
-abbrev pub withRedelivery : Bool → InterruptRecord → InterruptRecord
-withRedelivery x r = made (r .enabled) (r .pending) (r .active) (r .inflight) x (r .«line_asserted») (r .priority) (r .trigger) (r .«cpu_target_mask») (r .owner)
-
-abbrev pub withLine : Bool → InterruptRecord → InterruptRecord
-withLine x r = made (r .enabled) (r .pending) (r .active) (r .inflight) (r .«redelivery_pending») x (r .priority) (r .trigger) (r .«cpu_target_mask») (r .owner)
-
-abbrev pub withPriority : Priority → InterruptRecord → InterruptRecord
-withPriority x r = made (r .enabled) (r .pending) (r .active) (r .inflight) (r .«redelivery_pending») (r .«line_asserted») x (r .trigger) (r .«cpu_target_mask») (r .owner)
-
-abbrev pub withTrigger : TriggerMode → InterruptRecord → InterruptRecord
-withTrigger x r = made (r .enabled) (r .pending) (r .active) (r .inflight) (r .«redelivery_pending») (r .«line_asserted») (r .priority) x (r .«cpu_target_mask») (r .owner)
-
-abbrev pub withMask : CpuTargetMask → InterruptRecord → InterruptRecord
-withMask x r = made (r .enabled) (r .pending) (r .active) (r .inflight) (r .«redelivery_pending») (r .«line_asserted») (r .priority) (r .trigger) x (r .owner)
-
-abbrev pub withOwner : Owner → InterruptRecord → InterruptRecord
-withOwner x r = made (r .enabled) (r .pending) (r .active) (r .inflight) (r .«redelivery_pending») (r .«line_asserted») (r .priority) (r .trigger) (r .«cpu_target_mask») x
-
 -- `new`: only an SGI starts enabled; the priority is IHI's reset value; no target mask is set, and nobody serves it
 unfoldable pub newRecord : IntId → TriggerMode → InterruptRecord
-newRecord n t = made (isSgi n) false false false false false (record { 0 = 0 }) t Unset Nobody
+newRecord n t = record {
+  enabled = isSgi n;
+  pending = false;
+  active = false;
+  inflight = false;
+  «redelivery_pending» = false;
+  «line_asserted» = false;
+  priority = record { 0 = 0 };
+  trigger = t;
+  «cpu_target_mask» = Unset;
+  owner = Nobody;
+}
 
 -- what the interrupt n has after setup
 unfoldable pub startingRecord : IntId → InterruptRecord

@@ -5,6 +5,7 @@ use mathlib.Core.Bool.{Bool, true, false, cond}
 use Prim.Native.Nat.{ℕ}
 use lib.Dec.{ltb}
 use Rattle.interrupt.specs.declared.types.IntId.{IntId}
+use Rattle.interrupt.specs.declared.types.Priority.{Priority}
 use Rattle.interrupt.specs.declared.types.DecodedIntId.{DecodedIntId}
 use Rattle.interrupt.specs.declared.types.DecodedIntId.the-variants.{Valid, Reserved}
 use Rattle.interrupt.specs.declared.types.TriggerMode.{TriggerMode}
@@ -16,8 +17,20 @@ use Rattle.interrupt.specs.declared.types.InterruptState.the-variants.{I
 unfoldable pub decoded : ℕ → DecodedIntId
 decoded raw = cond (ltb raw 1020) (Valid (record { 0 = raw })) Reserved
 
+abbrev pub isValid : DecodedIntId → Bool
+isValid (Valid n) = true
+isValid Reserved = false
+
 abbrev pub isSgi : IntId → Bool
 isSgi n = ltb (n .0) 16
+
+-- SGIs and PPIs are private: each vCPU has its own
+abbrev pub isPrivateId : IntId → Bool
+isPrivateId n = ltb (n .0) 32
+
+-- the priority that a byte says
+abbrev pub priorityOf : ℕ → Priority
+priorityOf byte = record { 0 = byte }
 
 -- "SGIs start enabled and edge; the others disabled and level"
 unfoldable pub startingTrigger : IntId → TriggerMode

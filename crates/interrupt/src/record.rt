@@ -2,7 +2,8 @@
 // a device calls, `set_level` and `pulse`, change it where the caller keeps it.
 // Flags are joined by `&` and `|`, where the Rust has `&&` and `||`: the same value, and one test where a branch would make two.
 ghost use mathlib.Core.Path.{_≡_};
-ghost use Rattle.interrupt.specs.Record.{newRecord, startingRecord, setEnabled, setPending, setActive, stateOf, setState, hasDeliveryState, clearDeliveryState, markInflight, synchronizeInflight, cancelInflight, finishInflight, deactivateInflight, setPriority, setTrigger, setCpuTargetMask, setOwner, setLevel, pulse, complete, deliverable, held, withTrigger, withMask, withOwner};
+ghost use Rattle.interrupt.specs.Record.{newRecord, startingRecord, setEnabled, setPending, setActive, stateOf, setState, hasDeliveryState, clearDeliveryState, markInflight, synchronizeInflight, cancelInflight, finishInflight, deactivateInflight, setPriority, setTrigger, setCpuTargetMask, setOwner, setLevel, pulse, complete, deliverable, held};
+ghost use Rattle.interrupt.specs.With.{withTrigger, withMask, withOwner};
 use crate::types::GicVcpuId;
 use crate::types::IntId;
 use crate::types::InterruptState;

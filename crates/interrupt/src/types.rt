@@ -1,6 +1,6 @@
 // The numbers that stay apart, and the two small enums of a record.
 ghost use mathlib.Core.Path.{_≡_};
-ghost use Rattle.interrupt.specs.Types.{decoded, isSgi, isLevel, startingTrigger, pendingIn, activeIn};
+ghost use Rattle.interrupt.specs.Types.{decoded, isValid, isSgi, isPrivateId, priorityOf, isLevel, startingTrigger, pendingIn, activeIn};
 
 // An interrupt number: SGIs 0 to 15, PPIs 16 to 31, SPIs from 32.
 pub struct IntId(pub u32);
@@ -49,6 +49,24 @@ impl IntId {
     {
         self.0 < 16
     }
+
+    // An SGI or a PPI: each vCPU has its own.
+    pub fn is_private(self) -> bool
+        ensures { λ r. ⌜ r ≡ isPrivateId self ⌝ }
+    {
+        self.0 < 32
+    }
+}
+
+impl DecodedIntId {
+    pub fn is_valid(self) -> bool
+        ensures { λ r. ⌜ r ≡ isValid self ⌝ }
+    {
+        match self {
+            DecodedIntId::Valid(_) => true,
+            DecodedIntId::Reserved => false,
+        }
+    }
 }
 
 impl Priority {
@@ -57,7 +75,7 @@ impl Priority {
     pub const IDLE: Self = Self(255);
 
     pub fn new(raw: u8) -> Self
-        ensures { λ r. ⌜ r .0 ≡ raw ⌝ }
+        ensures { λ r. ⌜ r ≡ priorityOf raw ⌝ }
     {
         Self(raw)
     }

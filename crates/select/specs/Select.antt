@@ -5,6 +5,7 @@ use mathlib.Core.List.{List}
 use mathlib.Core.Path.{_≡_}
 use Prim.Native.Nat.{ℕ, zero, suc, _/_, _%_, _^_, _≤_, _<_}
 use lib.Dec.{eqb, ltb}
+use Rattle.interrupt.specs.Types.{isPrivateId}
 use Rattle.interrupt.specs.declared.record.InterruptRecord.{InterruptRecord}
 use Rattle.word.specs.Word.{maskByte}
 use Rattle.state.specs.declared.layout.Shape.{Shape}
@@ -17,7 +18,7 @@ use Rattle.select.specs.declared.Selected.the-variants.{Best, Nothing}
 
 -- the record r of the number n is one for the vCPU v: "its private interrupts, and SPIs whose mask names it"
 abbrev pub offered : ℕ → ℕ → InterruptRecord → Bool
-offered v n r = ltb n 32 || eqb (maskByte (r .«cpu_target_mask») / 2 ^ v % 2) 1
+offered v n r = isPrivateId (record { 0 = n }) || eqb (maskByte (r .«cpu_target_mask») / 2 ^ v % 2) 1
 
 -- ".. that are enabled, pending, not active, with priority below PMR", which is `mask`
 abbrev pub eligible : ℕ → ℕ → ℕ → InterruptRecord → Bool

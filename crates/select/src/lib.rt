@@ -1,6 +1,6 @@
 // Selection: which interrupt a vCPU is offered. Each record is visited once, where it stands.
 ghost use mathlib.Core.Path.{_≡_};
-ghost use Prim.Native.Nat.{_<_, _-_};
+ghost use Prim.Native.Nat.{_<_, _-_, _*_, _^_};
 ghost use Rattle.state.specs.declared.layout.InterfaceValue.the-variants.{PriorityMask};
 ghost use Rattle.state.specs.Words.{interfaceAt};
 ghost use Rattle.select.specs.Select.{best, bothOn, selectedNumber, highestPending, Looked};
@@ -28,7 +28,7 @@ const ACTIVE: u32 = 4;
 
 const MASK_SET: u32 = 128;
 
-const FIRST_TARGET: u32 = 65536;
+const FIRST_TARGET: u32 = 0x1_0000;
 
 // What the word of an SPI must have; a private record's needs ENABLED_AND_PENDING alone.
 fn needed_of_spi(vcpu: GicVcpuId) -> u32
@@ -39,7 +39,7 @@ fn needed_of_spi(vcpu: GicVcpuId) -> u32
 }
 
 fn is_ready(word: u32, needed: u32) -> bool
-    requires { ⌜ needed < 16777216 ⌝ }
+    requires { ⌜ needed < 2 ^ 24 ⌝ }
     ensures { λ r. ⌜ r ≡ readyWord needed word ⌝ }
 {
     // All bits that are needed, and not the one of an active record.
@@ -54,7 +54,7 @@ fn least(a: u32, b: u32) -> u32
 
 // A key is the priority with the number below it: the least is the smallest priority's, then the smallest number's.
 fn with_record(word: u32, intid: IntId, needed: u32, so_far: u32) -> u32
-    requires { ⌜ (needed < 16777216) × (intid .0 < 1020) ⌝ }
+    requires { ⌜ (needed < 2 ^ 24) × (intid .0 < 1020) ⌝ }
     ensures { λ r. ⌜ r ≡ withWord needed (intid .0) word «so_far» ⌝ }
 {
     if is_ready(word, needed) {
@@ -80,13 +80,13 @@ fn least_key(words: &[u32], offset: usize, first: u32, end: u32, needed: u32, st
 
 // `none` is the start of the run: where no key is below it, there is no candidate.
 fn of_key(key: u32, none: u32) -> Selected
-    requires { ⌜ none < 262144 ⌝ }
+    requires { ⌜ none < 1024 * 256 ⌝ }
     ensures { λ r. ⌜ r ≡ selectedBy none key ⌝ }
 {
     if key < none {
         Selected::Best(Entry {
             intid: IntId(key % 1024),
-            priority: Priority((key / 1024) as u8),
+            priority: Priority::new((key / 1024) as u8),
         })
     } else {
         Selected::Nothing
@@ -98,7 +98,7 @@ fn v2_priority_mask(words: &[u32], shape: Shape, vcpu: GicVcpuId) -> Priority
     ensures { λ r. ⌜ r .0 ≡ interfaceAt shape (vcpu .0) PriorityMask (now (words .entry)) ⌝ }
 {
     let bits = interface_value(words, shape, vcpu, InterfaceValue::PriorityMask);
-    Priority(bits as u8)
+    Priority::new(bits as u8)
 }
 
 pub fn highest_pending(words: &[u32], shape: Shape, vcpu: GicVcpuId) -> Selected

@@ -14,6 +14,11 @@ use state::words::record;
 use state::words::sgi_sources;
 use targets::vcpu_bit;
 
+// What the lowest bit of a field of SGIR counts: the target list in bits 23:16, the filter in 25:24.
+const TARGETS: u32 = 0x1_0000;
+
+const FILTER: u32 = 0x100_0000;
+
 // Whom a write to SGIR names.
 pub enum SgiTarget {
     Mask(u8),
@@ -75,8 +80,8 @@ pub fn pend_sgi(words: &mut [u32], shape: Shape, vcpu: GicVcpuId, source: GicVcp
 pub fn sgi_target(value: u32) -> SgiTarget
     ensures { λ r. ⌜ r ≡ sgiTarget value ⌝ }
 {
-    match value / 16777216 % 4 {
-        0 => SgiTarget::Mask((value / 65536 % 256) as u8),
+    match value / FILTER % 4 {
+        0 => SgiTarget::Mask((value / TARGETS % 256) as u8),
         1 => SgiTarget::AllExceptSelf,
         2 => SgiTarget::SelfOnly,
         _ => SgiTarget::Nobody,

@@ -5,8 +5,9 @@ use mathlib.Core.Path.{_≡_}
 use mathlib.Core.Bool.{Bool, cond}
 use mathlib.Core.List.{List}
 use Prim.Native.Nat.{ℕ, _+_, _*_, _/_, _%_, _^_, _≤_, _<_}
-use lib.Dec.{eqb, ltb}
+use lib.Dec.{eqb}
 use lib.ListN.{getD, set}
+use Rattle.interrupt.specs.Types.{isPrivateId, priorityOf}
 use Rattle.interrupt.specs.declared.record.InterruptRecord.{InterruptRecord}
 use Rattle.word.specs.Word.{bitOf, recordOf, wordOf}
 use Rattle.state.specs.declared.layout.Shape.{Shape}
@@ -23,7 +24,7 @@ put shape t w s = set s (place shape t) w
 
 -- the record of the number n as the vCPU v meets it: below 32 each vCPU has its own
 unfoldable pub recordSlot : ℕ → ℕ → Slot
-recordSlot v n = cond (ltb n 32) (Private v n) (Spi n)
+recordSlot v n = cond (isPrivateId (record { 0 = n })) (Private v n) (Spi n)
 
 -- there is such a record: its number is below the limit, and at a private number its vCPU exists
 pub record RecordThere (shape : Shape) (v n : ℕ) : Type 0 where
@@ -74,7 +75,7 @@ withEnabledAt shape on s = put shape DistributorControl (bitOf on) s
 
 -- a stack entry: the number in the low 10 bits, the priority in the next 8
 abbrev pub entryOf : ℕ → Entry
-entryOf w = record { intid = record { 0 = w % 1024 }; priority = record { 0 = w / 1024 % 256 } }
+entryOf w = record { intid = record { 0 = w % 1024 }; priority = priorityOf (w / 1024 % 256) }
 
 abbrev pub entryWord : Entry → ℕ
 entryWord e = e .intid .0 % 1024 + 1024 * e .priority .0

@@ -6,6 +6,8 @@ ghost use Rattle.interrupt.specs.Record.{startingRecord};
 ghost use Rattle.word.specs.Word.{wordOf};
 ghost use Rattle.state.specs.Layout.{Limits, Room, size, headerSlot, vcpuSlot, slotAt};
 ghost use Rattle.state.specs.Fresh.{startOf, fresh};
+use crate::layout::COUNT;
+use crate::layout::LIMIT;
 use crate::layout::Shape;
 use interrupt::IntId;
 use interrupt::InterruptRecord;
@@ -21,9 +23,9 @@ fn header_word(shape: Shape, at: usize) -> u32
     requires { ⌜ Limits shape ⌝ }
     ensures { λ r. ⌜ r ≡ startOf shape (headerSlot at) ⌝ }
 {
-    if at == 0 {
+    if at == COUNT {
         shape.count as u32
-    } else if at == 1 {
+    } else if at == LIMIT {
         shape.limit
     } else {
         0

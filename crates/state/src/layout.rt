@@ -6,6 +6,13 @@ ghost use Rattle.state.specs.Words.{recordSlot, RecordThere};
 use interrupt::GicVcpuId;
 use interrupt::IntId;
 
+// The words that stand first.
+pub const COUNT: usize = 0;
+
+pub const LIMIT: usize = 1;
+
+pub const DISTRIBUTOR_CONTROL: usize = 2;
+
 // How many vCPUs, and the first number that is no interrupt.
 pub struct Shape {
     pub count: usize,
@@ -97,7 +104,7 @@ pub fn record_place(shape: Shape, vcpu: GicVcpuId, intid: IntId) -> usize
     requires { ⌜ (Limits shape) × (RecordThere shape (vcpu .0) (intid .0)) ⌝ }
     ensures { λ r. ⌜ Placed shape (recordSlot (vcpu .0) (intid .0)) r ⌝ }
 {
-    if intid.0 < 32 {
+    if intid.is_private() {
         private_place(shape, vcpu, intid)
     } else {
         spi_place(shape, intid)

@@ -3,7 +3,9 @@ ghost use mathlib.Core.Path.{_≡_};
 ghost use Rattle.state.specs.Layout.{Room};
 ghost use Rattle.state.specs.Lent.{limited, storedShape, depthFits, validated};
 ghost use Rattle.state.specs.Loop.{everyBelow};
+use crate::layout::COUNT;
 use crate::layout::InterfaceValue;
+use crate::layout::LIMIT;
 use crate::layout::Shape;
 use crate::words::interface_value;
 use interrupt::GicVcpuId;
@@ -62,7 +64,7 @@ fn stored_shape(words: &[u32]) -> Limited
     if words.len() < 2 {
         return Limited::Outside;
     }
-    validate_limits(words[0] as u64, words[1] as u64)
+    validate_limits(words[COUNT] as u64, words[LIMIT] as u64)
 }
 
 pub fn validate_state(words: &[u32]) -> Lent

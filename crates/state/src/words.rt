@@ -2,6 +2,7 @@
 ghost use mathlib.Core.Path.{_≡_};
 ghost use Rattle.state.specs.Layout.{Interface, Sources, Stack, Room};
 ghost use Rattle.state.specs.Words.{Reached, Holds, recordAt, withRecord, sourcesAt, withSources, kept, interfaceAt, withInterface, enabledAt, withEnabledAt, entryOf, entryWord, entryAt, withEntry, withoutEntry};
+use crate::layout::DISTRIBUTOR_CONTROL;
 use crate::layout::InterfaceValue;
 use crate::layout::Shape;
 use crate::layout::interface_place;
@@ -99,7 +100,7 @@ pub fn distributor_enabled(words: &[u32], shape: Shape) -> bool
     requires { ⌜ Room shape (now words) ⌝ }
     ensures { λ r. ⌜ r ≡ enabledAt shape (now (words .entry)) ⌝ }
 {
-    words[2] % 2 == 1
+    words[DISTRIBUTOR_CONTROL] % 2 == 1
 }
 
 pub fn enable_distributor(words: &mut [u32], shape: Shape, enabled: bool)
@@ -107,9 +108,9 @@ pub fn enable_distributor(words: &mut [u32], shape: Shape, enabled: bool)
     ensures { λ r. ⌜ now (words .exit) ≡ withEnabledAt shape enabled (now (words .entry)) ⌝ }
 {
     if enabled {
-        words[2] = 1;
+        words[DISTRIBUTOR_CONTROL] = 1;
     } else {
-        words[2] = 0;
+        words[DISTRIBUTOR_CONTROL] = 0;
     }
 }
 
@@ -118,7 +119,7 @@ fn entry_of(word: u32) -> Entry
 {
     Entry {
         intid: IntId(word % 1024),
-        priority: Priority((word / 1024 % 256) as u8),
+        priority: Priority::new((word / 1024 % 256) as u8),
     }
 }
 

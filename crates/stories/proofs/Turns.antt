@@ -25,7 +25,8 @@ use Rattle.service.specs.Service.{depthAt}
 use Rattle.acknowledge.specs.Acknowledge as acknowledge-of
 use Rattle.acknowledge.specs.Acknowledge.{offer, sourceOf, given}
 use Rattle.acknowledge.proofs.Offers.{offer-is}
-use Rattle.wake.specs.Wake.{isSpurious, givesNumber, woken, wakeSet, urgent, ready}
+use Rattle.wake.specs.Halves.{urgent, ready}
+use Rattle.wake.specs.Wake.{isSpurious, givesNumber, woken, wakeSet}
 use Rattle.wake.proofs.Readiness.{some-at, ready-offer, ready-number}
 use Rattle.delivery.proofs.Answers.{acknowledge-is, acknowledged-is}
 use Rattle.answer.specs.Answer.{gave}

@@ -3,6 +3,7 @@ use mathlib.Core.Bool.{cond, _&&_}
 use mathlib.Core.List.{List}
 use Prim.Native.Nat.{ℕ, _%_, _^_}
 use lib.Dec.{leb, ltb}
+use Rattle.interrupt.specs.Types.{isPrivateId}
 use Rattle.interrupt.specs.Record.{setCpuTargetMask}
 use Rattle.word.specs.Word.{maskByte}
 use Rattle.state.specs.declared.layout.Shape.{Shape}
@@ -14,7 +15,7 @@ ownByte v = cond (ltb v 8) (2 ^ v) 0
 
 -- an SPI's byte is its mask, 0 where none is set; numbers from the limit up read 0
 unfoldable pub readTarget : Shape → ℕ → List ℕ → ℕ → ℕ
-readTarget shape v s n = cond (ltb n 32) (ownByte v) (cond (ltb n (shape .limit)) (maskByte (recordAt shape v n s .«cpu_target_mask»)) 0)
+readTarget shape v s n = cond (isPrivateId (record { 0 = n })) (ownByte v) (cond (ltb n (shape .limit)) (maskByte (recordAt shape v n s .«cpu_target_mask»)) 0)
 
 -- the bits of existing vCPUs
 abbrev pub existingBits : Shape → ℕ → ℕ

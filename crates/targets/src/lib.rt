@@ -28,7 +28,7 @@ pub fn read_target(words: &[u32], shape: Shape, vcpu: GicVcpuId, intid: IntId) -
     requires { ⌜ Room shape (now words) ⌝ }
     ensures { λ r. ⌜ r ≡ readTarget shape (vcpu .0) (now (words .entry)) (intid .0) ⌝ }
 {
-    if intid.0 < 32 {
+    if intid.is_private() {
         return own_byte(vcpu);
     }
     if shape.limit <= intid.0 {
@@ -50,7 +50,7 @@ pub fn write_target(words: &mut [u32], shape: Shape, vcpu: GicVcpuId, intid: Int
     requires { ⌜ Room shape (now words) ⌝ }
     ensures { λ r. ⌜ now (words .exit) ≡ writeTarget shape (vcpu .0) (intid .0) byte (now (words .entry)) ⌝ }
 {
-    if intid.0 < 32 {
+    if intid.is_private() {
         return;
     }
     if shape.limit <= intid.0 {

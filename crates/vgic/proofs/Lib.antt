@@ -1,3 +1,4 @@
 -- Laws that belong to no one function.
+pub mod One
 pub mod Packing
 pub mod Retired

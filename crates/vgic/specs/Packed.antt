@@ -1,5 +1,6 @@
 -- The C face: an answer as one number of 64 bits, and a width as a number of bytes. include/vgic.h says the same to a C compiler.
 use mathlib.Core.Path.{_≡_}
+use mathlib.Core.Bool.{Bool}
 use mathlib.Core.List.{List}
 use Prim.Native.Nat.{ℕ, _+_, _*_, _%_, _^_}
 use Rattle.register.specs.declared.frame.AccessWidth.{AccessWidth}
@@ -12,6 +13,10 @@ use Rattle.state.specs.declared.lent.Limited.the-variants.{Within, Outside}
 use Rattle.state.specs.Layout.{size}
 use Rattle.state.specs.Lent.{limited}
 use Rattle.answer.specs.Answer.{Outcome, refused}
+use Rattle.distributor_frame.specs.DistributorFrame.{readV2Distributor, writeV2Distributor}
+use Rattle.cpu_interface_frame.specs.CpuInterfaceFrame.{readV2CpuInterface, writeV2CpuInterface}
+use Rattle.input.specs.Input.{deviceLevel, devicePulse}
+use Rattle.controller.specs.Start.{setup}
 
 -- bits 0 to 31 the value, 32 to 47 the retired number, 48 to 55 the wake set, 56 to 63 the refusal
 unfoldable pub packedAnswer : Outcome → ℕ
@@ -29,6 +34,30 @@ atWidth Reserved s call = refused Width s
 
 abbrev pub accessed : ℕ → List ℕ → (AccessWidth → Outcome) → Outcome
 accessed width s call = atWidth (decodedWidth width) s call
+
+-- what the C functions promise of their number and the words after it
+abbrev pub VgicSetup : ℕ → ℕ → List ℕ → ℕ → List ℕ → Type 0
+VgicSetup count limit before number after = Answers number after (setup count limit before)
+
+abbrev pub VgicReadDistributor : ℕ → ℕ → ℕ → List ℕ → ℕ → List ℕ → Type 0
+VgicReadDistributor v offset width before number after = Answers number after (accessed width before (λ w. readV2Distributor v offset w before))
+
+abbrev pub VgicWriteDistributor : ℕ → ℕ → ℕ → ℕ → List ℕ → ℕ → List ℕ → Type 0
+VgicWriteDistributor v offset width value before number after =
+    Answers number after (accessed width before (λ w. writeV2Distributor v offset w value before))
+
+abbrev pub VgicReadCpuInterface : ℕ → ℕ → ℕ → List ℕ → ℕ → List ℕ → Type 0
+VgicReadCpuInterface v offset width before number after = Answers number after (accessed width before (λ w. readV2CpuInterface v offset w before))
+
+abbrev pub VgicWriteCpuInterface : ℕ → ℕ → ℕ → ℕ → List ℕ → ℕ → List ℕ → Type 0
+VgicWriteCpuInterface v offset width value before number after =
+    Answers number after (accessed width before (λ w. writeV2CpuInterface v offset w value before))
+
+abbrev pub VgicSetLevel : ℕ → ℕ → Bool → List ℕ → ℕ → List ℕ → Type 0
+VgicSetLevel v n asserted before number after = Answers number after (deviceLevel v n asserted before)
+
+abbrev pub VgicPulse : ℕ → ℕ → List ℕ → ℕ → List ℕ → Type 0
+VgicPulse v n before number after = Answers number after (devicePulse v n before)
 
 -- how many words a state takes, 0 where count or limit is out of range
 abbrev pub sizeOf : Limited → ℕ

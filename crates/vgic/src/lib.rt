@@ -3,11 +3,7 @@ ghost use mathlib.Core.Path.{_≡_};
 ghost use mathlib.Core.List.{List};
 ghost use Prim.Native.Nat.{ℕ};
 ghost use Rattle.answer.specs.Answer.{outcome};
-ghost use Rattle.controller.specs.Start.{setup};
-ghost use Rattle.distributor_frame.specs.DistributorFrame.{readV2Distributor, writeV2Distributor};
-ghost use Rattle.cpu_interface_frame.specs.CpuInterfaceFrame.{readV2CpuInterface, writeV2CpuInterface};
-ghost use Rattle.input.specs.Input.{deviceLevel, devicePulse};
-ghost use Rattle.vgic.specs.Packed.{packedAnswer, Answers, accessed, stateWords};
+ghost use Rattle.vgic.specs.Packed.{packedAnswer, stateWords, VgicSetup, VgicReadDistributor, VgicWriteDistributor, VgicReadCpuInterface, VgicWriteCpuInterface, VgicSetLevel, VgicPulse};
 use controller::Answer;
 use interrupt::GicVcpuId;
 use register::AccessWidth;
@@ -16,15 +12,22 @@ use register::Refusal;
 use state::Limited;
 use state::lent::validate_limits;
 
+// What the lowest bit of each field above the value counts.
+const RETIRED: u64 = 0x1_0000_0000;
+
+const WAKE: u64 = 0x1_0000_0000_0000;
+
+const REFUSAL: u64 = 0x100_0000_0000_0000;
+
 // An answer as one number. No shift and no sum leaves its 64 bits.
 fn packed(answer: Answer) -> u64
     ensures { λ r. ⌜ ((s : List ℕ) → r ≡ packedAnswer (outcome answer s)) ⌝ }
 {
     let value = answer.value() as u64;
-    let retired = answer.retired() as u64 % 65536;
+    let retired = answer.retired() as u64 % 0x1_0000;
     let wake = answer.wake() as u64;
     let refusal = answer.refusal() as u64;
-    value + 4294967296 * retired + 281474976710656 * wake + 72057594037927936 * refusal
+    value + RETIRED * retired + WAKE * wake + REFUSAL * refusal
 }
 
 #[no_mangle]
@@ -39,14 +42,14 @@ pub extern "C" fn vgic_state_words(count: u64, limit: u64) -> u64
 
 #[no_mangle]
 pub extern "C" fn vgic_setup(words: &mut [u32], count: u64, limit: u64) -> u64
-    ensures { λ r. ⌜ Answers r (now (words .exit)) (setup count limit (now (words .entry))) ⌝ }
+    ensures { λ r. ⌜ VgicSetup count limit (now (words .entry)) r (now (words .exit)) ⌝ }
 {
     packed(controller::setup(words, count, limit))
 }
 
 #[no_mangle]
 pub extern "C" fn vgic_read_v2_distributor(words: &[u32], vcpu: u64, offset: u64, width: u64) -> u64
-    ensures { λ r. ⌜ Answers r (now (words .entry)) (accessed width (now (words .entry)) (λ w. readV2Distributor vcpu offset w (now (words .entry)))) ⌝ }
+    ensures { λ r. ⌜ VgicReadDistributor vcpu offset width (now (words .entry)) r (now (words .entry)) ⌝ }
 {
     let DecodedWidth::Valid(access) = AccessWidth::new(width) else {
         return packed(Answer::Refused(Refusal::Width));
@@ -62,7 +65,7 @@ pub extern "C" fn vgic_write_v2_distributor(
     width: u64,
     value: u64,
 ) -> u64
-    ensures { λ r. ⌜ Answers r (now (words .exit)) (accessed width (now (words .entry)) (λ w. writeV2Distributor vcpu offset w value (now (words .entry)))) ⌝ }
+    ensures { λ r. ⌜ VgicWriteDistributor vcpu offset width value (now (words .entry)) r (now (words .exit)) ⌝ }
 {
     let DecodedWidth::Valid(access) = AccessWidth::new(width) else {
         return packed(Answer::Refused(Refusal::Width));
@@ -77,7 +80,7 @@ pub extern "C" fn vgic_read_v2_cpu_interface(
     offset: u64,
     width: u64,
 ) -> u64
-    ensures { λ r. ⌜ Answers r (now (words .exit)) (accessed width (now (words .entry)) (λ w. readV2CpuInterface vcpu offset w (now (words .entry)))) ⌝ }
+    ensures { λ r. ⌜ VgicReadCpuInterface vcpu offset width (now (words .entry)) r (now (words .exit)) ⌝ }
 {
     let DecodedWidth::Valid(access) = AccessWidth::new(width) else {
         return packed(Answer::Refused(Refusal::Width));
@@ -93,7 +96,7 @@ pub extern "C" fn vgic_write_v2_cpu_interface(
     width: u64,
     value: u64,
 ) -> u64
-    ensures { λ r. ⌜ Answers r (now (words .exit)) (accessed width (now (words .entry)) (λ w. writeV2CpuInterface vcpu offset w value (now (words .entry)))) ⌝ }
+    ensures { λ r. ⌜ VgicWriteCpuInterface vcpu offset width value (now (words .entry)) r (now (words .exit)) ⌝ }
 {
     let DecodedWidth::Valid(access) = AccessWidth::new(width) else {
         return packed(Answer::Refused(Refusal::Width));
@@ -109,14 +112,14 @@ pub extern "C" fn vgic_write_v2_cpu_interface(
 
 #[no_mangle]
 pub extern "C" fn vgic_set_level(words: &mut [u32], vcpu: u64, number: u64, asserted: bool) -> u64
-    ensures { λ r. ⌜ Answers r (now (words .exit)) (deviceLevel vcpu number asserted (now (words .entry))) ⌝ }
+    ensures { λ r. ⌜ VgicSetLevel vcpu number asserted (now (words .entry)) r (now (words .exit)) ⌝ }
 {
     packed(controller::set_level(words, GicVcpuId(vcpu as usize), number, asserted))
 }
 
 #[no_mangle]
 pub extern "C" fn vgic_pulse(words: &mut [u32], vcpu: u64, number: u64) -> u64
-    ensures { λ r. ⌜ Answers r (now (words .exit)) (devicePulse vcpu number (now (words .entry))) ⌝ }
+    ensures { λ r. ⌜ VgicPulse vcpu number (now (words .entry)) r (now (words .exit)) ⌝ }
 {
     packed(controller::pulse(words, GicVcpuId(vcpu as usize), number))
 }

@@ -20,7 +20,8 @@ use Rattle.service.specs.Service.{depthAt, running}
 use Rattle.acknowledge.specs.declared.Read.the-variants.{Value, StackFull}
 use Rattle.acknowledge.specs.Acknowledge.{preempting, offer, sourceOf, answered, acknowledge}
 use Rattle.acknowledge.proofs.Offers.{offer-below}
-use Rattle.wake.specs.Wake.{isSpurious, givesNumber, someBelow, urgent, ready}
+use Rattle.wake.specs.Halves.{someBelow, urgent, ready}
+use Rattle.wake.specs.Wake.{isSpurious, givesNumber}
 
 -- one passes: some do; none passes: none do
 pub some-at : (f : ℕ → Bool) (n i : ℕ) → i < n → f i ≡ true → someBelow f n ≡ true

@@ -14,13 +14,16 @@ use Rattle.state.specs.declared.layout.Shape.{Shape}
 use Rattle.state.specs.Layout.{Limits}
 use Rattle.state.specs.Loop.{everyBelow}
 use Rattle.state.proofs.Tests.{every-at}
-use Rattle.wake.specs.Wake.{wakeSet, woken, wouldGive, amongGives, givenAmong, quietSet, wakeFrom}
+use Rattle.wake.specs.declared.IarAnswer.{IarAnswer}
+use Rattle.wake.specs.declared.IarAnswer.the-variants.{Spurious, Number}
+use Rattle.wake.specs.Halves.{answersSo, amongAnswers, answeringAmong, quietSet, wakeFrom}
+use Rattle.wake.specs.Wake.{wakeSet, woken}
 
 -- one bit more fits a byte
-pub bits-fit : (number : Bool) (among : ℕ) (shape : Shape) (s : List ℕ) (v : ℕ) → v < 8
-    → gathered 1 (λ u. bitOf (amongGives number among shape s u)) v + bitOf (amongGives number among shape s v) * 2 ^ (1 * v) < 2 ^ 8
+pub bits-fit : (answer : IarAnswer) (among : ℕ) (shape : Shape) (s : List ℕ) (v : ℕ) → v < 8
+    → gathered 1 (λ u. bitOf (amongAnswers answer among shape s u)) v + bitOf (amongAnswers answer among shape s v) * 2 ^ (1 * v) < 2 ^ 8
 unfolding gathered
-bits-fit number among shape s v h = gathered-fits 1 (λ u. bitOf (amongGives number among shape s u)) (λ u. bit-fits (amongGives number among shape s u)) (suc v) 8 (omega arith)
+bits-fit answer among shape s v h = gathered-fits 1 (λ u. bitOf (amongAnswers answer among shape s u)) (λ u. bit-fits (amongAnswers answer among shape s u)) (suc v) 8 (omega arith)
 
 -- every bit of 255 is set
 all-among : (v : ℕ) → v < 8 → eqb (255 / 2 ^ v % 2) 1 ≡ true
@@ -29,16 +32,16 @@ all-among v h = every-at (λ u. eqb (255 / 2 ^ u % 2) 1) 8 v refl h
 
 module _ (shape : Shape) (l : Limits shape) where
   -- the bit of a vCPU among the quiet ones
-  pub quiet-bit : (s : List ℕ) (v : ℕ) → v < shape .count → eqb (quietSet shape s / 2 ^ v % 2) 1 ≡ wouldGive false shape s v
-  unfolding givenAmong
+  pub quiet-bit : (s : List ℕ) (v : ℕ) → v < shape .count → eqb (quietSet shape s / 2 ^ v % 2) 1 ≡ answersSo Spurious shape s v
+  unfolding answeringAmong
   quiet-bit s v h =
-      let f : ℕ → ℕ = λ u. bitOf (amongGives false 255 shape s u) in
-      let at : gathered 1 f (shape .count) / 2 ^ v % 2 ≡ f v = rw one-mul at (gathered-field 1 f (λ u. bit-fits (amongGives false 255 shape s u)) (shape .count) v h) in
-      ap (λ (x : ℕ). eqb x 1) at ∙ bit-back (amongGives false 255 shape s v) ∙ ap (λ (b : Bool). b && wouldGive false shape s v) (all-among v (omega arith))
+      let f : ℕ → ℕ = λ u. bitOf (amongAnswers Spurious 255 shape s u) in
+      let at : gathered 1 f (shape .count) / 2 ^ v % 2 ≡ f v = rw one-mul at (gathered-field 1 f (λ u. bit-fits (amongAnswers Spurious 255 shape s u)) (shape .count) v h) in
+      ap (λ (x : ℕ). eqb x 1) at ∙ bit-back (amongAnswers Spurious 255 shape s v) ∙ ap (λ (b : Bool). b && answersSo Spurious shape s v) (all-among v (omega arith))
 
   -- before and after together
   pub wake-from : (before after : List ℕ) → wakeFrom (quietSet shape before) shape after ≡ wakeSet shape before after
-  unfolding givenAmong wakeSet
+  unfolding answeringAmong wakeSet
   wake-from before after =
-      gathered-same 1 (λ v. bitOf (amongGives true (quietSet shape before) shape after v)) (λ v. bitOf (woken shape before after v)) (shape .count)
-      (λ v h. ap (λ (b : Bool). bitOf (b && wouldGive true shape after v)) (quiet-bit before v h))
+      gathered-same 1 (λ v. bitOf (amongAnswers Number (quietSet shape before) shape after v)) (λ v. bitOf (woken shape before after v)) (shape .count)
+      (λ v h. ap (λ (b : Bool). bitOf (b && answersSo Number shape after v)) (quiet-bit before v h))

@@ -1,1 +1,2 @@
 pub mod Wake
+pub mod Halves

@@ -3,13 +3,22 @@ ghost use mathlib.Core.Path.{_≡_};
 ghost use Prim.Native.Nat.{_*_, _^_, _<_};
 ghost use Rattle.word.specs.Word.{bitOf};
 ghost use Rattle.service.specs.Service.{Served, Sound};
-ghost use Rattle.wake.specs.Wake.{wouldGive, amongGives, givenAmong, quietSet, wakeFrom, ready};
+ghost use Rattle.wake.specs.Halves.{answersSo, amongAnswers, answeringAmong, quietSet, wakeFrom, ready};
 use acknowledge::offer;
 use interrupt::GicVcpuId;
 use select::Selected;
 use service::depth;
 use state::Shape;
 use targets::vcpu_bit;
+
+// What an IAR read would answer; one that 7 would refuse answers neither.
+pub enum IarAnswer {
+    Spurious,
+    Number,
+}
+
+// All eight bits.
+const EVERYBODY: u8 = 255;
 
 // An IAR read by `vcpu` would not give 1023.
 fn ready(words: &[u32], shape: Shape, vcpu: GicVcpuId) -> bool
@@ -22,25 +31,23 @@ fn ready(words: &[u32], shape: Shape, vcpu: GicVcpuId) -> bool
     }
 }
 
-// An IAR read by `vcpu` would give a number, where `number`, and else 1023.
-fn gives(words: &[u32], shape: Shape, vcpu: GicVcpuId, number: bool) -> bool
+fn answers_so(words: &[u32], shape: Shape, vcpu: GicVcpuId, answer: IarAnswer) -> bool
     requires { ⌜ Served shape (vcpu .0) (now words) ⌝ }
-    ensures { λ r. ⌜ r ≡ wouldGive number shape (now (words .entry)) (vcpu .0) ⌝ }
+    ensures { λ r. ⌜ r ≡ answersSo answer shape (now (words .entry)) (vcpu .0) ⌝ }
 {
     let some = ready(words, shape, vcpu);
-    if number {
-        some & (depth(words, shape, vcpu) < 255)
-    } else {
-        !some
+    match answer {
+        IarAnswer::Spurious => !some,
+        IarAnswer::Number => some & (depth(words, shape, vcpu) < 255),
     }
 }
 
-fn among_gives(words: &[u32], shape: Shape, vcpu: GicVcpuId, among: u8, number: bool) -> bool
+fn among_answers(words: &[u32], shape: Shape, vcpu: GicVcpuId, among: u8, answer: IarAnswer) -> bool
     requires { ⌜ Served shape (vcpu .0) (now words) ⌝ }
-    ensures { λ r. ⌜ r ≡ amongGives number among shape (now (words .entry)) (vcpu .0) ⌝ }
+    ensures { λ r. ⌜ r ≡ amongAnswers answer among shape (now (words .entry)) (vcpu .0) ⌝ }
 {
     if (among >> vcpu.0) % 2 == 1 {
-        gives(words, shape, vcpu, number)
+        answers_so(words, shape, vcpu, answer)
     } else {
         false
     }
@@ -53,16 +60,16 @@ fn bit_at(vcpu: GicVcpuId, set: bool) -> u8
     if set { vcpu_bit(vcpu) } else { 0 }
 }
 
-fn given_among(words: &[u32], shape: Shape, among: u8, number: bool) -> u8
+fn answering_among(words: &[u32], shape: Shape, among: u8, answer: IarAnswer) -> u8
     requires { ⌜ Sound shape (now words) ⌝ }
-    ensures { λ r. ⌜ r ≡ givenAmong number among shape (now (words .entry)) ⌝ }
+    ensures { λ r. ⌜ r ≡ answeringAmong answer among shape (now (words .entry)) ⌝ }
 {
     let count = shape.count;
     let mut bits: u8 = 0;
     let mut v = 0;
     while v < count {
         let vcpu = GicVcpuId(v);
-        bits += bit_at(vcpu, among_gives(words, shape, vcpu, among, number));
+        bits += bit_at(vcpu, among_answers(words, shape, vcpu, among, answer));
         v += 1;
     }
     bits
@@ -73,7 +80,7 @@ pub fn quiet_vcpus(words: &[u32], shape: Shape) -> u8
     requires { ⌜ Sound shape (now words) ⌝ }
     ensures { λ r. ⌜ r ≡ quietSet shape (now (words .entry)) ⌝ }
 {
-    given_among(words, shape, 255, false)
+    answering_among(words, shape, EVERYBODY, IarAnswer::Spurious)
 }
 
 // After the call: those of them that it would give a number.
@@ -81,5 +88,5 @@ pub fn wake_set(words: &[u32], shape: Shape, quiet: u8) -> u8
     requires { ⌜ Sound shape (now words) ⌝ }
     ensures { λ r. ⌜ r ≡ wakeFrom quiet shape (now (words .entry)) ⌝ }
 {
-    given_among(words, shape, quiet, true)
+    answering_among(words, shape, quiet, IarAnswer::Number)
 }

@@ -11,7 +11,6 @@ use borrow.Author.Tests.{eqb-true, eqb-false, ne-eqb}
 use Rattle.word.proofs.Fields.{Fit, breadth, at, place, packed-fits, field-packed, fieldsFrom, sum, packed-fields}
 use Rattle.interrupt.specs.Types.{isLevel}
 use Rattle.word.specs.Fields.{bits, field, packed}
-use Rattle.interrupt.specs.Record.{made}
 use Rattle.word.specs.Word.{flag, triggerOf, maskOf, ownerOf, recordOf, bitOf, isSet, maskByte, ownerByte, fieldsOf, wordOf, ownerInRange, InRange, CanonicalRecord}
 use Rattle.interrupt.specs.declared.types.TriggerMode.{TriggerMode}
 use Rattle.interrupt.specs.declared.types.TriggerMode.the-variants.{Level, Edge}
@@ -119,17 +118,18 @@ read-back i r h = field-packed i (fieldsOf r) (fields-fit r h)
 -- decoding an encoded record gives it back
 pub decode-encode : (r : InterruptRecord) → InRange r → recordOf (wordOf r) ≡ r
 unfolding recordOf at place
-decode-encode r h = λ i.
-    made (flag-back 0 (wordOf r) (r .enabled) (read-back 0 r h) i)
-    (flag-back 1 (wordOf r) (r .pending) (read-back 1 r h) i)
-    (flag-back 2 (wordOf r) (r .active) (read-back 2 r h) i)
-    (flag-back 3 (wordOf r) (r .inflight) (read-back 3 r h) i)
-    (flag-back 4 (wordOf r) (r .«redelivery_pending») (read-back 4 r h) i)
-    (flag-back 5 (wordOf r) (r .«line_asserted») (read-back 5 r h) i)
-    (record { 0 = read-back 8 r h i })
-    ((ap triggerOf (flag-back 6 (wordOf r) (not (isLevel (r .trigger))) (read-back 6 r h)) ∙ trigger-back (r .trigger)) i)
-    ((ap₂ maskOf (flag-back 7 (wordOf r) (isSet (r .«cpu_target_mask»)) (read-back 7 r h)) (read-back 9 r h) ∙ mask-back (r .«cpu_target_mask»)) i)
-    ((ap ownerOf (read-back 10 r h) ∙ owner-back (r .owner) (h .owner-byte)) i)
+decode-encode r h = λ i. record {
+  enabled = flag-back 0 (wordOf r) (r .enabled) (read-back 0 r h) i;
+  pending = flag-back 1 (wordOf r) (r .pending) (read-back 1 r h) i;
+  active = flag-back 2 (wordOf r) (r .active) (read-back 2 r h) i;
+  inflight = flag-back 3 (wordOf r) (r .inflight) (read-back 3 r h) i;
+  «redelivery_pending» = flag-back 4 (wordOf r) (r .«redelivery_pending») (read-back 4 r h) i;
+  «line_asserted» = flag-back 5 (wordOf r) (r .«line_asserted») (read-back 5 r h) i;
+  priority = record { 0 = read-back 8 r h i };
+  trigger = (ap triggerOf (flag-back 6 (wordOf r) (not (isLevel (r .trigger))) (read-back 6 r h)) ∙ trigger-back (r .trigger)) i;
+  «cpu_target_mask» = (ap₂ maskOf (flag-back 7 (wordOf r) (isSet (r .«cpu_target_mask»)) (read-back 7 r h)) (read-back 9 r h) ∙ mask-back (r .«cpu_target_mask»)) i;
+  owner = (ap ownerOf (read-back 10 r h) ∙ owner-back (r .owner) (h .owner-byte)) i;
+}
 
 widths : List ℕ
 widths = 1 ∷ 1 ∷ 1 ∷ 1 ∷ 1 ∷ 1 ∷ 1 ∷ 1 ∷ 8 ∷ 8 ∷ 8 ∷ []

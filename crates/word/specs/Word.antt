@@ -6,8 +6,7 @@ use mathlib.Core.Path.{_≡_}
 use mathlib.Core.List.{List, [], _∷_}
 use Prim.Native.Nat.{ℕ, _+_, _-_, _%_, _^_, _<_}
 use lib.Dec.{eqb}
-use Rattle.interrupt.specs.Types.{isLevel}
-use Rattle.interrupt.specs.Record.{made}
+use Rattle.interrupt.specs.Types.{isLevel, priorityOf}
 use Rattle.word.specs.Fields.{Field, bits, field, packed}
 use Rattle.interrupt.specs.declared.types.TriggerMode.{TriggerMode}
 use Rattle.interrupt.specs.declared.types.TriggerMode.the-variants.{Level, Edge}
@@ -32,12 +31,18 @@ ownerOf byte = cond (eqb byte 0) Nobody (Vcpu (record { 0 = byte - 1 }))
 
 -- what a word means
 unfoldable pub recordOf : ℕ → InterruptRecord
-recordOf w =
-    made (flag 0 w) (flag 1 w) (flag 2 w) (flag 3 w) (flag 4 w) (flag 5 w)
-    (record { 0 = field 8 8 w })
-    (triggerOf (flag 6 w))
-    (maskOf (flag 7 w) (field 16 8 w))
-    (ownerOf (field 24 8 w))
+recordOf w = record {
+  enabled = flag 0 w;
+  pending = flag 1 w;
+  active = flag 2 w;
+  inflight = flag 3 w;
+  «redelivery_pending» = flag 4 w;
+  «line_asserted» = flag 5 w;
+  trigger = triggerOf (flag 6 w);
+  «cpu_target_mask» = maskOf (flag 7 w) (field 16 8 w);
+  priority = priorityOf (field 8 8 w);
+  owner = ownerOf (field 24 8 w);
+}
 
 abbrev pub bitOf : Bool → ℕ
 bitOf b = cond b 1 0

@@ -13,6 +13,13 @@ use interrupt::Owner;
 use interrupt::Priority;
 use interrupt::TriggerMode;
 
+// What the lowest bit of each byte above the flags counts.
+const PRIORITY: u32 = 0x100;
+
+const TARGET_MASK: u32 = 0x1_0000;
+
+const OWNER: u32 = 0x100_0000;
+
 fn trigger_of(edge: bool) -> TriggerMode
     ensures { λ r. ⌜ r ≡ triggerOf edge ⌝ }
 {
@@ -97,10 +104,10 @@ pub fn decode(w: u32) -> InterruptRecord
         inflight: w / 8 % 2 == 1,
         redelivery_pending: w / 16 % 2 == 1,
         line_asserted: w / 32 % 2 == 1,
-        priority: Priority((w / 256 % 256) as u8),
+        priority: Priority::new((w / PRIORITY % 256) as u8),
         trigger: trigger_of(w / 64 % 2 == 1),
-        cpu_target_mask: mask_of(w / 128 % 2 == 1, (w / 65536 % 256) as u8),
-        owner: owner_of((w / 16777216 % 256) as usize),
+        cpu_target_mask: mask_of(w / 128 % 2 == 1, (w / TARGET_MASK % 256) as u8),
+        owner: owner_of((w / OWNER % 256) as usize),
     }
 }
 
@@ -126,7 +133,7 @@ pub fn encode(r: InterruptRecord) -> u32
     let mask = r.cpu_target_mask;
     let owner = r.owner;
     flags(r)
-        + 256 * (r.priority.0 as u32)
-        + 65536 * (mask_byte(mask) as u32)
-        + 16777216 * (owner_byte(owner) as u32)
+        + PRIORITY * (r.priority.0 as u32)
+        + TARGET_MASK * (mask_byte(mask) as u32)
+        + OWNER * (owner_byte(owner) as u32)
 }

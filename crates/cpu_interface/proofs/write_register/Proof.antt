@@ -1,6 +1,7 @@
 -- `cpu_interface::write_register` meets its contract. Assumes nothing.
+use mathlib.Core.Path.{ap}
 use borrow.Author.Needs.{needs}
-use Rattle.cpu_interface.proofs.Decoding.{valid-decodes}
+use Rattle.interrupt.specs.Types.{isValid}
 use Rattle.cpu_interface.proofs.write_register.Statement.{statement}
 use Rattle.cpu_interface.proofs.write_register.Tie as tie
 
@@ -29,7 +30,7 @@ enum-told-5 : tie.Need-enum-told-5
 enum-told-5 c = search needs
 
 eoi-v2-requires : tie.Need-eoi-v2-requires
-eoi-v2-requires c κs = record { state = search needs; served = λ n p. c .before .before .before .before .pre .served (simp (c .before .enum-told5 .given .1) (valid-decodes (c .before .before .before .before .args .value) n p)) }
+eoi-v2-requires c κs = record { state = search needs; served = λ n p. c .before .before .before .before .pre .served (simp (c .before .enum-told5 .given .1) (ap isValid p)) }
 
 enum-told-6 : tie.Need-enum-told-6
 enum-told-6 c = search needs
@@ -50,7 +51,7 @@ enum-told-10 : tie.Need-enum-told-10
 enum-told-10 c = search needs
 
 eoi-v2-requires-2 : tie.Need-eoi-v2-requires-2
-eoi-v2-requires-2 c κs = record { state = search needs; served = λ n p. c .before .before .before .before .pre .served (simp (c .before .enum-told10 .given .1) (valid-decodes (c .before .before .before .before .args .value) n p)) }
+eoi-v2-requires-2 c κs = record { state = search needs; served = λ n p. c .before .before .before .before .pre .served (simp (c .before .enum-told10 .given .1) (ap isValid p)) }
 
 enum-told-11 : tie.Need-enum-told-11
 enum-told-11 c = search needs
@@ -65,7 +66,7 @@ enum-told-14 : tie.Need-enum-told-14
 enum-told-14 c = search needs
 
 dir-v2-requires : tie.Need-dir-v2-requires
-dir-v2-requires c κs = record { state = search needs; served = λ n p. c .before .before .before .before .pre .served (simp (c .before .enum-told14 .given .1) (valid-decodes (c .before .before .before .before .args .value) n p)) }
+dir-v2-requires c κs = record { state = search needs; served = λ n p. c .before .before .before .before .pre .served (simp (c .before .enum-told14 .given .1) (ap isValid p)) }
 
 enum-told-15 : tie.Need-enum-told-15
 enum-told-15 c = search needs

@@ -1,5 +1,7 @@
 -- `input::input_at` meets its contract. Assumes nothing.
-use mathlib.Core.Path.{sym, _∙_}
+use mathlib.Core.Bool.{Bool}
+use mathlib.Core.Path.{sym, ap, _∙_}
+use Rattle.answer.specs.Answer.{absent}
 use Rattle.input.specs.Input.{signalled}
 use Rattle.wake.proofs.WakeSets.{wake-from}
 use Rattle.input.proofs.Passed.{changed-sound, input-there}
@@ -19,11 +21,14 @@ enum-told c = search needs
 returns : tie.Need-returns
 returns c = simp (← c .before .before .input-number .ensures, c .enum-told .given .1)
 
+is-private-requires : tie.Need-is-private-requires
+is-private-requires c κs = search needs
+
 absent-requires : tie.Need-absent-requires
 absent-requires c κs = search needs
 
 returns-2 : tie.Need-returns-2
-returns-2 c = simp (← c .before .before .before .before .before .before .input-number .ensures, c .before .before .before .before .intid .given .1, ← c .before .absent .ensures, c .if1 .taken)
+returns-2 c = simp (← c .before .before .before .before .before .before .input-number .ensures, c .before .before .before .before .intid .given .1, ← c .before .before .is-private .ensures, ← c .before .absent .ensures, c .if1 .taken)
 
 quiet-vcpus-requires : tie.Need-quiet-vcpus-requires
 quiet-vcpus-requires c κs = search needs
@@ -31,12 +36,17 @@ quiet-vcpus-requires c κs = search needs
 signal-record-requires : tie.Need-signal-record-requires
 signal-record-requires c κs =
     let a = c .before .before .before .before .before .before .before .before .before .before .before .args in
-    record { state = c .before .before .before .before .before .before .before .before .before .before .before .pre .state; there = input-there (a .shape) (a .vcpu .0) (a .number) _ (sym (c .before .before .before .before .before .before .before .before .before .input-number .ensures) ∙ c .before .before .before .before .before .before .before .intid .given .1) (sym (c .before .before .before .before .absent .ensures) ∙ c .before .before .before .if1 .left) }
+    record {
+      state = c .before .before .before .before .before .before .before .before .before .before .before .pre .state;
+      there = input-there (a .shape) (a .vcpu .0) (a .number) _ (sym (c .before .before .before .before .before .before .before .before .before .input-number .ensures) ∙ c .before .before .before .before .before .before .before .intid .given .1)
+          (sym (ap (λ (b : Bool). absent b (a .shape) (a .vcpu .0)) (c .before .before .before .before .before .is-private .ensures)) ∙ sym (c .before .before .before .before .absent .ensures) ∙ c .before .before .before .if1 .left);
+    }
 
 done-requires : tie.Need-done-requires
 done-requires c κs =
     let a = c .before .before .before .before .before .before .before .before .before .before .before .before .before .before .before .args in
-    let there = input-there (a .shape) (a .vcpu .0) (a .number) _ (sym (c .before .before .before .before .before .before .before .before .before .before .before .before .before .input-number .ensures) ∙ c .before .before .before .before .before .before .before .before .before .before .before .intid .given .1) (sym (c .before .before .before .before .before .before .before .before .absent .ensures) ∙ c .before .before .before .before .before .before .before .if1 .left) in
+    let there = input-there (a .shape) (a .vcpu .0) (a .number) _ (sym (c .before .before .before .before .before .before .before .before .before .before .before .before .before .input-number .ensures) ∙ c .before .before .before .before .before .before .before .before .before .before .before .intid .given .1)
+    (sym (ap (λ (b : Bool). absent b (a .shape) (a .vcpu .0)) (c .before .before .before .before .before .before .before .before .before .is-private .ensures)) ∙ sym (c .before .before .before .before .before .before .before .before .absent .ensures) ∙ c .before .before .before .before .before .before .before .if1 .left) in
     rw (c .before .before .before .signal-record .ensures) (changed-sound (a .shape) (a .vcpu .0) _ (signalled (a .signal)) (a .words .now) (c .before .before .before .before .before .before .before .before .before .before .before .before .before .before .before .pre) there)
 
 same-length : tie.Need-same-length
@@ -51,6 +61,7 @@ returns-3 c =
       wake-from (c .before .before .before .before .before .before .before .before .before .before .before .before .before .before .before .before .args .shape) (c .before .before .before .before .before .before .before .before .before .before .before .before .before .before .before .before .pre .state .limits),
       ← c .before .before .before .before .before .before .before .before .before .before .before .before .before .before .input-number .ensures,
       c .before .before .before .before .before .before .before .before .before .before .before .before .intid .given .1,
+      ← c .before .before .before .before .before .before .before .before .before .before .is-private .ensures,
       ← c .before .before .before .before .before .before .before .before .before .absent .ensures,
       c .before .before .before .before .before .before .before .before .if1 .left,
     )
@@ -63,6 +74,7 @@ input-at-spec =
     enum-known-intid
     enum-told
     returns
+    is-private-requires
     absent-requires
     returns-2
     quiet-vcpus-requires

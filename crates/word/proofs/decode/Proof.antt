@@ -5,8 +5,11 @@ use Rattle.word.specs.Word.{recordOf}
 use Rattle.word.proofs.decode.Statement.{statement}
 use Rattle.word.proofs.decode.Tie as tie
 
-cast-t21 : tie.Need-cast-t21
-cast-t21 c = search needs
+cast-new : tie.Need-cast-new
+cast-new c = search needs
+
+new-requires : tie.Need-new-requires
+new-requires c κs = search needs
 
 trigger-of-requires : tie.Need-trigger-of-requires
 trigger-of-requires c κs = search needs
@@ -25,13 +28,14 @@ owner-of-requires c κs = search needs
 
 returns : tie.Need-returns
 unfolding recordOf
-returns c = simp (c .owner-of .ensures, c .before .mask-of .ensures, c .before .before .trigger-of .ensures, div-one)
+returns c = simp (c .owner-of .ensures, c .before .mask-of .ensures, c .before .before .trigger-of .ensures, c .before .before .before .new .ensures, div-one)
 
 pub decode-spec : {M : Type 1} → statement M
 decode-spec =
     tie.close
     (tie.spec
-    cast-t21
+    cast-new
+    new-requires
     trigger-of-requires
     cast-mask-of
     mask-of-requires

@@ -13,6 +13,9 @@ returns c = simp (le-ltb _ _ (c .if1 .taken))
 record-requires : tie.Need-record-requires
 record-requires c κs = search needs
 
+new-requires : tie.Need-new-requires
+new-requires c κs = search needs
+
 set-priority-requires : tie.Need-set-priority-requires
 set-priority-requires c κs = search needs
 
@@ -24,7 +27,7 @@ same-length c = search needs
 
 returns-2 : tie.Need-returns-2
 unfolding writePriority
-returns-2 c = simp (lt-ltb _ _ (c .before .before .before .before .before .before .before .if1 .left)) (c .before .before .put-record .ensures ∙ simp (c .before .before .before .before .set-priority .ensures, c .before .before .before .before .before .«record» .ensures))
+returns-2 c = simp (lt-ltb _ _ (c .before .before .before .before .before .before .before .before .if1 .left)) (c .before .before .put-record .ensures ∙ simp (c .before .before .before .before .set-priority .ensures, c .before .before .before .before .before .new .ensures, c .before .before .before .before .before .before .«record» .ensures))
 
 pub write-priority-spec : {M : Type 1} → statement M
 write-priority-spec =
@@ -32,6 +35,7 @@ write-priority-spec =
     (tie.spec
     returns
     record-requires
+    new-requires
     set-priority-requires
     put-record-requires
     same-length

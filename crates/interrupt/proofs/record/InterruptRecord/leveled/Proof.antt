@@ -4,7 +4,8 @@ use mathlib.Core.Path.{_≡_}
 use mathlib.Core.Bool.{Bool, true, false, not, _&&_, and-false}
 use Rattle.interrupt.specs.Types.{isLevel}
 use Rattle.interrupt.specs.declared.record.InterruptRecord.{InterruptRecord}
-use Rattle.interrupt.specs.Record.{setLevel, withRedelivery, withPending, withLine}
+use Rattle.interrupt.specs.Record.{setLevel}
+use Rattle.interrupt.specs.With.{withRedelivery, withPending, withLine}
 use Rattle.interrupt.proofs.record.InterruptRecord.leveled.Statement.{statement}
 use Rattle.interrupt.proofs.record.InterruptRecord.leveled.Tie as tie
 

@@ -5,7 +5,8 @@ use mathlib.Core.Bool.{Bool, true, false}
 use Rattle.interrupt.specs.declared.record.InterruptRecord.{InterruptRecord}
 use Rattle.interrupt.specs.declared.types.InterruptState.{InterruptState}
 use Rattle.interrupt.specs.declared.record.Synchronized.{Synchronized}
-use Rattle.interrupt.specs.Record.{synchronizeInflight, setState, stateOf, noteMerged, noteSpent, withRedelivery}
+use Rattle.interrupt.specs.Record.{synchronizeInflight, setState, stateOf, noteMerged, noteSpent}
+use Rattle.interrupt.specs.With.{withRedelivery}
 use Rattle.interrupt.proofs.record.InterruptRecord.synchronize_inflight.Statement.{
   statement,
 }

@@ -1,0 +1,31 @@
+-- Each C function's promise, as its `ensures` has it, admits one outcome: one number, and one list of words after it. Assumes nothing.
+use mathlib.Core.Path.{_≡_, sym, _∙_}
+use mathlib.Core.Bool.{Bool}
+use mathlib.Core.List.{List}
+use Prim.Native.Nat.{ℕ}
+use Rattle.answer.specs.Answer.{Outcome, AdmitsOne}
+use Rattle.vgic.specs.Packed.{Answers, VgicSetup, VgicReadDistributor, VgicWriteDistributor, VgicReadCpuInterface, VgicWriteCpuInterface, VgicSetLevel, VgicPulse}
+
+one : {meaning : Outcome} → AdmitsOne (λ number s. Answers number s meaning)
+one a b x y p q = (p .number-is ∙ sym (q .number-is), p .state-is ∙ sym (q .state-is))
+
+pub vgic-setup-one : (count limit : ℕ) (s : List ℕ) → AdmitsOne (VgicSetup count limit s)
+vgic-setup-one count limit s = one
+
+pub vgic-read-v2-distributor-one : (v offset width : ℕ) (s : List ℕ) → AdmitsOne (VgicReadDistributor v offset width s)
+vgic-read-v2-distributor-one v offset width s = one
+
+pub vgic-write-v2-distributor-one : (v offset width value : ℕ) (s : List ℕ) → AdmitsOne (VgicWriteDistributor v offset width value s)
+vgic-write-v2-distributor-one v offset width value s = one
+
+pub vgic-read-v2-cpu-interface-one : (v offset width : ℕ) (s : List ℕ) → AdmitsOne (VgicReadCpuInterface v offset width s)
+vgic-read-v2-cpu-interface-one v offset width s = one
+
+pub vgic-write-v2-cpu-interface-one : (v offset width value : ℕ) (s : List ℕ) → AdmitsOne (VgicWriteCpuInterface v offset width value s)
+vgic-write-v2-cpu-interface-one v offset width value s = one
+
+pub vgic-set-level-one : (v n : ℕ) (asserted : Bool) (s : List ℕ) → AdmitsOne (VgicSetLevel v n asserted s)
+vgic-set-level-one v n asserted s = one
+
+pub vgic-pulse-one : (v n : ℕ) (s : List ℕ) → AdmitsOne (VgicPulse v n s)
+vgic-pulse-one v n s = one
