@@ -102,27 +102,27 @@ corners =
     ∷ C 2 0x10 3 4 3
     ∷ c 2 0x0c 0x403
     ∷ [])
-    -- "PMR 0x80: .. P 0x7F is [offered]"
+    -- "PMR 0x80: .. P 0x7F is [offered]": SGI 5, since what always reads 0 would name SGI 0
     ∷ of 1 32
     (D 0 0x000 Dword 1 0
     ∷ C 0 0x00 1 0 1023
     ∷ C 0 0x04 0x80 0 1023
-    ∷ D 0 0x400 Byte 0x7f 0
-    ∷ D 0 0xf00 Dword 0x02000000 1
-    ∷ c 0 0x18 0
-    ∷ c 0 0x0c 0
+    ∷ D 0 0x405 Byte 0x7f 0
+    ∷ D 0 0xf00 Dword 0x02000005 1
+    ∷ c 0 0x18 5
+    ∷ c 0 0x0c 5
     ∷ [])
-    -- "Running 0x80, pending 0x80: IAR 1023, HPPIR names it"
+    -- "Running 0x80, pending 0x80: IAR 1023, HPPIR names it": the pending number is the smaller, which does not help it
     ∷ of 1 32
     (D 0 0x000 Dword 1 0
     ∷ C 0 0x00 1 0 1023
     ∷ C 0 0x04 255 0 1023
-    ∷ D 0 0x400 Word 0x8080 0
-    ∷ D 0 0xf00 Dword 0x02000000 1
-    ∷ c 0 0x0c 0
+    ∷ D 0 0x406 Word 0x8080 0
+    ∷ D 0 0xf00 Dword 0x02000007 1
+    ∷ c 0 0x0c 7
     ∷ c 0 0x14 0x80
-    ∷ D 0 0xf00 Dword 0x02000001 0
+    ∷ D 0 0xf00 Dword 0x02000006 0
     ∷ c 0 0x0c 1023
-    ∷ c 0 0x18 1
+    ∷ c 0 0x18 6
     ∷ [])
     ∷ []
