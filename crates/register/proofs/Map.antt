@@ -136,7 +136,7 @@ by-range P o (r ∷ rs) rows none = go (holds r o) (rows 0 (omega arith)) (by-ra
     go true p q = p tt
     go false p q = q
 
-by-row : (P : RegisterRange → Type 0) (o : ℕ) → ((n : ℕ) → n < 16 → T (holds (rangeNumbered n) o) → P (rangeNumbered n)) → P nowhere → P (rangeAt o)
+pub by-row : (P : RegisterRange → Type 0) (o : ℕ) → ((n : ℕ) → n < 16 → T (holds (rangeNumbered n) o) → P (rangeNumbered n)) → P nowhere → P (rangeAt o)
 unfolding rangeAt rangeNumbered ranges
 by-row P o rows none = by-range P o ranges rows none
 
