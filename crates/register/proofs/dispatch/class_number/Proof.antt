@@ -1,5 +1,5 @@
--- `class_number`: the dispatch table agrees with the ranges at all of its 1,024 entries. The list of the class numbers is computed and found equal
--- to the constant, and one law says what stands at an entry.
+-- `class_number`: the dispatch table agrees with the ranges at all of its 1,024 entries. The list of the class numbers is computed and found
+-- equal to the constant, and one law says what stands at each entry.
 use borrow.Author.Needs.{needs}
 use Rattle.register.specs.Ranges.{ranges, rangeIn, rangeAt}
 use Rattle.register.proofs.Map.{classNumbers, class-numbers}
