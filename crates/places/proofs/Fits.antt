@@ -19,10 +19,12 @@ use Rattle.register.specs.declared.ranges.Class.the-variants.{Ctlr, Typer, Iidr
 use Rattle.register.specs.declared.distributor.Place.{Place}
 use Rattle.register.specs.declared.distributor.DistributorAccess.{DistributorAccess}
 use Rattle.register.specs.declared.distributor.DistributorAccess.the-variants.{Refused, PrivateWidth, At}
-use Rattle.register.specs.Distributor.{bitNumbersPerByte, isPriority, isBanked, isPrivate, placeAt, plain, locateDistributor}
+use Rattle.register.specs.Distributor.{bitNumbersPerByte, placeAt, plain, locateDistributor}
+use Rattle.register.specs.Finding.{isPriority}
 use Rattle.register.specs.Frame.{refusalNumber, bytes, isDword, isQword}
 use Rattle.register.specs.Ranges.{ranges, classAt, rangeNumbered, rangeOf}
 use Rattle.register.proofs.Access.{some-bytes}
+use Rattle.register.proofs.Private.{isBanked, private-below}
 use Rattle.register.proofs.Ways.{isSingle, each-access}
 use Rattle.register.proofs.Reach.{reach, numbers, reach-bound}
 use Rattle.state.specs.declared.layout.Shape.{Shape}
@@ -50,8 +52,8 @@ Fitted w PrivateWidth = Unit
 Fitted w (At p) = Placement w p
 
 placed : (o : ℕ) (w : AccessWidth) (c : Class) → classAt o ≡ c → WidthFits c w → Placement w (placeAt o)
-unfolding placeAt isPrivate
-placed o w c e f = record { private-is = refl; width-fits = subst (λ (k : Class). WidthFits k w) (sym e) f }
+unfolding placeAt
+placed o w c e f = record { private-is = private-below o; width-fits = subst (λ (k : Class). WidthFits k w) (sym e) f }
 
 alone : (w : AccessWidth) (c : Class) → isSingle c ≡ true → Placement w (plain c)
 alone w Ctlr e = record { private-is = refl; width-fits = tt }

@@ -5,7 +5,7 @@ use mathlib.Core.Bool.{Bool, true, false, cond, _&&_, and-false}
 use mathlib.Core.List.{List, [], _∷_}
 use mathlib.Core.Logic.{_⊎_, inl, inr}
 use Prim.Native.Nat.{ℕ, zero, suc, suc-le-suc, _+_, _*_, _/_, _%_, _≤_, _<_}
-use native.Mathlib.Nat.{le-of-suc-le-suc, not-suc-le-zero}
+use native.Mathlib.Nat.{zero-add, le-of-suc-le-suc, not-suc-le-zero}
 use native.Mathlib.Omega.{arith}
 use lib.Dec.{T, leb, ltb, eqb, leb→le, ltb→lt, eqb→eq}
 use lib.ListN.{length, getD, List·getD-eq-default}
@@ -136,7 +136,7 @@ by-range P o (r ∷ rs) rows none = go (holds r o) (rows 0 (omega arith)) (by-ra
     go true p q = p tt
     go false p q = q
 
-by-row : (P : RegisterRange → Type 0) (o : ℕ) → ((n : ℕ) → n < 16 → T (holds (rangeNumbered n) o) → P (rangeNumbered n)) → P nowhere → P (rangeAt o)
+pub by-row : (P : RegisterRange → Type 0) (o : ℕ) → ((n : ℕ) → n < 16 → T (holds (rangeNumbered n) o) → P (rangeNumbered n)) → P nowhere → P (rangeAt o)
 unfolding rangeAt rangeNumbered ranges
 by-row P o rows none = by-range P o ranges rows none
 
@@ -191,13 +191,13 @@ rows-in-words n h = at inWords ranges tt n nowhere h
 pub range-whole : (o : ℕ) → (rangeAt o ≡ nowhere) ⊎ Whole (rangeAt o) o
 range-whole o = by-row (λ r. (r ≡ nowhere) ⊎ Whole r o) o (λ n h t. inr (whole (rangeNumbered n) n o (rows-in-words n h) t)) (inl refl)
 
--- the class numbers of 256 places, computed: what each quarter of the dispatch table has to be
-unfoldable pub classNumbers : ℕ → List ℕ
-classNumbers quarter = tabulate (λ (k : ℕ). classNumber (classAt (4 * k))) (256 * quarter) 256
+-- the class number of each 32-bit place, computed: what the dispatch table has to be
+unfoldable pub classNumbers : List ℕ
+classNumbers = tabulate (λ (place : ℕ). classNumber (classAt (4 * place))) 0 1024
 
-pub class-numbers : (quarter place : ℕ) → place / 256 ≡ quarter → getD (classNumbers quarter) (place % 256) 0 ≡ classNumber (classAt (4 * place))
+pub class-numbers : (place : ℕ) → place < 1024 → getD classNumbers place 0 ≡ classNumber (classAt (4 * place))
 unfolding classNumbers
-class-numbers quarter place h = getD-tabulate number (256 * quarter) 256 (place % 256) 0 (omega arith) ∙ ap number (omega (arith, h))
+class-numbers place h = getD-tabulate number 0 1024 place 0 h ∙ ap number (zero-add place)
   where
     number : ℕ → ℕ
     number n = classNumber (classAt (4 * n))

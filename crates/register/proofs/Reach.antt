@@ -1,27 +1,26 @@
 -- How far an accepted Distributor access reaches: no number past its registers, and from a private register none past 31. Assumes nothing.
 use mathlib.Core.Path.{_≡_, refl, ap, sym, subst, _∙_}
-use mathlib.Core.Bool.{Bool, true, false, cond, _&&_, true≢false}
+use mathlib.Core.Bool.{Bool, true, false, cond, true≢false}
 use mathlib.Core.Logic.{_⊎_, inl, inr}
 use Prim.Native.Nat.{ℕ, _+_, _-_, _*_, _%_, _≤_, _<_}
-use native.Mathlib.Nat.{add-mul, mul-comm, mul-le-mul-right}
+use native.Mathlib.Nat.{le-trans, add-mul, mul-comm, mul-le-mul-right}
 use native.Mathlib.Omega.{arith}
 use lib.Dec.{ltb}
 use borrow.Author.Tests.{eqb-true, ltb-true}
 use Rattle.register.specs.declared.frame.AccessWidth.{AccessWidth}
 use Rattle.register.specs.declared.frame.AccessWidth.the-variants.{Byte, Word, Dword, Qword}
-use Rattle.register.specs.declared.ranges.BitRegister.the-variants.{Igroupr, Isenabler, Icenabler, Ispendr, Icpendr, Isactiver, Icactiver, Icfgr}
-use Rattle.register.specs.declared.ranges.ByteRegister.the-variants.{Ipriorityr, Itargetsr, Cpendsgir, Spendsgir}
 use Rattle.register.specs.declared.ranges.Class.{Class}
 use Rattle.register.specs.declared.ranges.Class.the-variants.{Ctlr, Typer, Iidr, Sgir, Bits, Bytes, Other}
 use Rattle.register.specs.declared.ranges.RegisterRange.{RegisterRange}
 use Rattle.register.specs.declared.distributor.Place.{Place}
 use Rattle.register.specs.declared.distributor.DistributorAccess.{DistributorAccess}
 use Rattle.register.specs.declared.distributor.DistributorAccess.the-variants.{Refused, PrivateWidth, At}
-use Rattle.register.specs.Distributor.{numbersPerByte, isBanked, firstNumber, isPrivate, placeAt, plain, single, locateDistributor}
+use Rattle.register.specs.Distributor.{numbersPerByte, privateBytes, firstNumber, isPrivate, placeAt, plain, locateDistributor}
 use Rattle.register.specs.Frame.{bytes, isDword, isQword, aligned}
 use Rattle.register.specs.Ranges.{nowhere, rangeAt, classAt, rangeOf}
 use Rattle.register.proofs.Ways.{isSingle, each-access}
 use Rattle.register.proofs.Map.{range-of-class, Whole, range-whole}
+use Rattle.register.proofs.Private.{private-words, private-few}
 
 -- one past the last number that an access at a place reaches
 abbrev pub reach : Place → AccessWidth → ℕ
@@ -49,29 +48,6 @@ scaled f l o b n i h =
     let near : o - f + b ≤ l = omega arith in
     subst (λ (m : ℕ). m ≤ l * n) (add-mul (o - f) b n ∙ ap (λ (m : ℕ). (o - f) * n + m) (mul-comm b n)) (mul-le-mul-right n near)
 
--- and below 32: of eight numbers a byte, four or one, the private ones fill whole words
-own-eight : (width : AccessWidth) (first offset : ℕ) → isQword width ≡ false → aligned offset width ≡ true → first % 4 ≡ 0 → first ≤ offset → (offset - first) * 8 < 32 → (offset - first) * 8 + 8 * bytes width ≤ 32
-own-eight w f o q a i s h = let e : o + bytes w ≤ f + 4 = ends w f 4 o q a i refl (omega arith) in omega arith
-
-own : (class : Class) (width : AccessWidth) (first offset : ℕ) → isBanked class ≡ true → isQword width ≡ false → aligned offset width ≡ true → first % 4 ≡ 0 → first ≤ offset → (offset - first) * numbersPerByte class < 32 → (offset - first) * numbersPerByte class + numbersPerByte class * bytes width ≤ 32
-own (Bits Icfgr) w f o b q a i s h = let e : o + bytes w ≤ f + 8 = ends w f 8 o q a i refl (omega arith) in omega arith
-own (Bits Igroupr) w f o b q a i s h = own-eight w f o q a i s h
-own (Bits Isenabler) w f o b q a i s h = own-eight w f o q a i s h
-own (Bits Icenabler) w f o b q a i s h = own-eight w f o q a i s h
-own (Bits Ispendr) w f o b q a i s h = own-eight w f o q a i s h
-own (Bits Icpendr) w f o b q a i s h = own-eight w f o q a i s h
-own (Bits Isactiver) w f o b q a i s h = own-eight w f o q a i s h
-own (Bits Icactiver) w f o b q a i s h = own-eight w f o q a i s h
-own (Bytes Ipriorityr) w f o b q a i s h = let e : o + bytes w ≤ f + 32 = ends w f 32 o q a i refl (omega arith) in omega arith
-own (Bytes Itargetsr) w f o b q a i s h = absurd (true≢false (sym b))
-own (Bytes Cpendsgir) w f o b q a i s h = absurd (true≢false (sym b))
-own (Bytes Spendsgir) w f o b q a i s h = absurd (true≢false (sym b))
-own Ctlr w f o b q a i s h = absurd (true≢false (sym b))
-own Typer w f o b q a i s h = absurd (true≢false (sym b))
-own Iidr w f o b q a i s h = absurd (true≢false (sym b))
-own Sgir w f o b q a i s h = absurd (true≢false (sym b))
-own Other w f o b q a i s h = absurd (true≢false (sym b))
-
 placed : (o : ℕ) (w : AccessWidth) → isQword w ≡ false → aligned o w ≡ true → Bound w (At (placeAt o))
 unfolding placeAt firstNumber isPrivate
 placed o w q a = go (range-whole o)
@@ -82,27 +58,34 @@ placed o w q a = go (range-whole o)
     n : ℕ
     n = numbersPerByte (classAt o)
 
+    -- an access that starts in the first whole words of the range
+    among : (length : ℕ) → Whole (rangeAt o) o → length % 4 ≡ 0 → o < f + length → (o - f) * n + n * bytes w ≤ length * n
+    among length whole words near = scaled f length o (bytes w) n (whole .starts-before) (ends w f length o q a (whole .first-word) words near)
+
     shared : Whole (rangeAt o) o → (o - f) * n + n * bytes w ≤ rangeOf (classAt o) .length * n
     shared whole =
         subst (λ (r : RegisterRange). (o - f) * n + n * bytes w ≤ r .length * n)
         (sym (range-of-class o))
-        (scaled f (rangeAt o .length) o (bytes w) n (whole .starts-before)
-        (ends w f (rangeAt o .length) o q a (whole .first-word) (whole .length-word) (whole .ends-behind)))
+        (among (rangeAt o .length) whole (whole .length-word) (whole .ends-behind))
 
-    parts : (banked small : Bool) → isBanked (classAt o) ≡ banked → ltb ((o - f) * n) 32 ≡ small → Whole (rangeAt o) o → (o - f) * n + n * bytes w ≤ cond (banked && small) 32 (rangeOf (classAt o) .length * n)
-    parts true true b s whole = own (classAt o) w f o b q a (whole .first-word) (whole .starts-before) (ltb-true ((o - f) * n) 32 s)
-    parts true false b s whole = shared whole
-    parts false small b s whole = shared whole
+    own : Whole (rangeAt o) o → o - f < privateBytes (classAt o) → (o - f) * n + n * bytes w ≤ 32
+    own whole near =
+        let start : f ≤ o = whole .starts-before in
+        le-trans (among (privateBytes (classAt o)) whole (private-words o) (omega (arith, near))) (private-few o)
+
+    parts : (private : Bool) → ltb (o - f) (privateBytes (classAt o)) ≡ private → Whole (rangeAt o) o → (o - f) * n + n * bytes w ≤ cond private 32 (rangeOf (classAt o) .length * n)
+    parts true e whole = own whole (ltb-true (o - f) (privateBytes (classAt o)) e)
+    parts false e whole = shared whole
 
     At-range : RegisterRange → Type 0
     At-range r =
         (o - r .first) * numbersPerByte (r .class) + numbersPerByte (r .class) * bytes w
-        ≤ cond (isBanked (r .class) && ltb ((o - r .first) * numbersPerByte (r .class)) 32) 32
+        ≤ cond (ltb (o - r .first) (privateBytes (r .class))) 32
         (rangeOf (r .class) .length * numbersPerByte (r .class))
 
     go : (rangeAt o ≡ nowhere) ⊎ Whole (rangeAt o) o → Bound w (At (placeAt o))
     go (inl e) = subst At-range (sym e) (omega arith)
-    go (inr whole) = parts (isBanked (classAt o)) (ltb ((o - f) * n) 32) refl refl whole
+    go (inr whole) = parts (ltb (o - f) (privateBytes (classAt o))) refl whole
 
 -- which widths are let through
 not-qword : (w : AccessWidth) → isDword w ≡ true → isQword w ≡ false

@@ -1,14 +1,12 @@
 -- Where an access to the Distributor falls: document 01, "Distributor places" and "Refusal numbers"; the registers are those of IHI 0048,
 -- section 4.3. What a place then reads or does, and the lookup of the vCPU, are not said here.
 use mathlib.Core.Bool.{Bool, true, false, cond, not, _&&_}
-use mathlib.Core.Path.{_≡_}
-use Prim.Native.Nat.{ℕ, _-_, _*_, _%_, _<_}
+use Prim.Native.Nat.{ℕ, _-_, _*_, _%_}
 use lib.Dec.{eqb, ltb}
 use Rattle.register.specs.declared.frame.AccessWidth.{AccessWidth}
 use Rattle.register.specs.declared.frame.Refusal.the-variants.{Access, Width, Vcpu}
 use Rattle.register.specs.declared.ranges.BitRegister.{BitRegister}
 use Rattle.register.specs.declared.ranges.BitRegister.the-variants.{Igroupr, Isenabler, Icenabler, Ispendr, Icpendr, Isactiver, Icactiver, Icfgr}
-use Rattle.register.specs.declared.ranges.ByteRegister.{ByteRegister}
 use Rattle.register.specs.declared.ranges.ByteRegister.the-variants.{Ipriorityr, Itargetsr, Cpendsgir, Spendsgir}
 use Rattle.register.specs.declared.ranges.Class.{Class}
 use Rattle.register.specs.declared.ranges.Class.the-variants.{Ctlr, Typer, Iidr, Sgir, Bits, Bytes, Other}
@@ -43,25 +41,29 @@ numbersPerByte Other = 0
 unfoldable pub firstNumber : ℕ → ℕ
 firstNumber offset = (offset - rangeAt offset .first) * numbersPerByte (classAt offset)
 
--- "Private registers are the first of each bit range, ICFGR's first two and priority bytes 0 to 31": of these each vCPU has its own
--- for the numbers below 32
-abbrev pub isPriority : ByteRegister → Bool
-isPriority Ipriorityr = true
-isPriority Itargetsr = false
-isPriority Cpendsgir = false
-isPriority Spendsgir = false
-
-abbrev pub isBanked : Class → Bool
-isBanked Ctlr = false
-isBanked Typer = false
-isBanked Iidr = false
-isBanked Sgir = false
-isBanked (Bits register) = true
-isBanked (Bytes register) = isPriority register
-isBanked Other = false
+-- "Private registers are the first of each bit range, ICFGR's first two and priority bytes 0 to 31: each vCPU has its own": how many bytes at
+-- the start of a range these are
+abbrev pub privateBytes : Class → ℕ
+privateBytes Ctlr = 0
+privateBytes Typer = 0
+privateBytes Iidr = 0
+privateBytes Sgir = 0
+privateBytes (Bits Igroupr) = 4
+privateBytes (Bits Isenabler) = 4
+privateBytes (Bits Icenabler) = 4
+privateBytes (Bits Ispendr) = 4
+privateBytes (Bits Icpendr) = 4
+privateBytes (Bits Isactiver) = 4
+privateBytes (Bits Icactiver) = 4
+privateBytes (Bits Icfgr) = 8
+privateBytes (Bytes Ipriorityr) = 32
+privateBytes (Bytes Itargetsr) = 0
+privateBytes (Bytes Cpendsgir) = 0
+privateBytes (Bytes Spendsgir) = 0
+privateBytes Other = 0
 
 unfoldable pub isPrivate : ℕ → Bool
-isPrivate offset = isBanked (classAt offset) && ltb (firstNumber offset) 32
+isPrivate offset = ltb (offset - rangeAt offset .first) (privateBytes (classAt offset))
 
 unfoldable pub placeAt : ℕ → Place
 placeAt offset = record { class = classAt offset; first = record { 0 = firstNumber offset }; private = isPrivate offset }
@@ -116,8 +118,3 @@ unfoldable pub distributorRefusal : Bool → DistributorAccess → ℕ
 distributorRefusal exists (Refused r) = refusalNumber r
 distributorRefusal exists PrivateWidth = cond exists (refusalNumber Width) (refusalNumber Vcpu)
 distributorRefusal exists (At place) = cond (not exists && place .private) (refusalNumber Vcpu) 0
-
--- what `locate_distributor` hands down: an offset in the frame, and its class
-pub record Found (class : Class) (offset : ℕ) : Type 0 where
-  pub class-at : class ≡ classAt offset
-  pub in-frame : offset < 0x1000

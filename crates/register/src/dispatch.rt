@@ -1,13 +1,11 @@
-// The dispatch table: the class number of each 32-bit place of the Distributor, in four constants of 256 places each. An index builds its
-// constant on the stack, so that a table in one piece would cost four times as much.
+// The dispatch table: the class number of each 32-bit place of the Distributor.
 ghost use mathlib.Core.Path.{_≡_};
 ghost use Prim.Native.Nat.{_*_, _<_};
 ghost use Rattle.register.specs.Ranges.{classAt, classNumber};
 use crate::ranges::Class;
 
 // Entry k is the class number of the range that holds offset 4k, 16 where no range does: `class_number` has it proved at each entry.
-// From 0x000.
-const FIRST_NUMBERS: [u8; 256] = [
+const CLASS_NUMBERS: [u8; 1024] = [
     // 0x000 GICD_CTLR
     0,
     // 0x004 GICD_TYPER
@@ -275,10 +273,6 @@ const FIRST_NUMBERS: [u8; 256] = [
     9,
     9,
     9,
-];
-
-// From 0x400.
-const PRIORITY_NUMBERS: [u8; 256] = [
     // 0x400 GICD_IPRIORITYR
     10,
     10,
@@ -537,10 +531,6 @@ const PRIORITY_NUMBERS: [u8; 256] = [
     10,
     // 0x7fc
     16,
-];
-
-// From 0x800.
-const TARGET_NUMBERS: [u8; 256] = [
     // 0x800 GICD_ITARGETSR
     11,
     11,
@@ -799,10 +789,6 @@ const TARGET_NUMBERS: [u8; 256] = [
     11,
     // 0xbfc
     16,
-];
-
-// From 0xc00.
-const LAST_NUMBERS: [u8; 256] = [
     // 0xc00 GICD_ICFGR
     12,
     12,
@@ -1073,13 +1059,7 @@ fn class_number(place: usize) -> u8
     requires { ⌜ place < 1024 ⌝ }
     ensures { λ r. ⌜ r ≡ classNumber (classAt (4 * place)) ⌝ }
 {
-    let at = place % 256;
-    match place / 256 {
-        0 => FIRST_NUMBERS[at],
-        1 => PRIORITY_NUMBERS[at],
-        2 => TARGET_NUMBERS[at],
-        _ => LAST_NUMBERS[at],
-    }
+    CLASS_NUMBERS[place]
 }
 
 // SGIR, on which guests ring, is told without the table.

@@ -1,6 +1,7 @@
 // Where an access to the Distributor falls.
 ghost use mathlib.Core.Path.{_≡_};
-ghost use Rattle.register.specs.Distributor.{bitNumbersPerByte, isPriority, Found, placeAt, plain, unfit, single, bitWord, byteArray, locateInFrame, locateDistributor};
+ghost use Rattle.register.specs.Distributor.{bitNumbersPerByte, placeAt, plain, unfit, single, bitWord, byteArray, locateInFrame, locateDistributor};
+ghost use Rattle.register.specs.Finding.{Found, isPriority};
 ghost use Prim.Native.Nat.{_-_};
 ghost use Rattle.register.specs.Ranges.{rangeAt};
 ghost use Rattle.register.specs.declared.ranges.Class.the-variants.{Bits, Bytes};

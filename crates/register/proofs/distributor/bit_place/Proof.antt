@@ -5,8 +5,9 @@ use native.Mathlib.Nat.{lt-of-le-of-lt, mul-le-mul-left}
 use native.Mathlib.Omega.{arith}
 use borrow.Author.Needs.{needs}
 use Rattle.register.specs.declared.ranges.BitRegister.{BitRegister}
-use Rattle.register.specs.Distributor.{bitNumbersPerByte, placeAt, firstNumber, isPrivate}
+use Rattle.register.specs.Distributor.{bitNumbersPerByte, placeAt, firstNumber}
 use Rattle.register.proofs.Map.{few-numbers}
+use Rattle.register.proofs.Private.{private-below}
 use Rattle.register.proofs.distributor.bit_place.Statement.{statement}
 use Rattle.register.proofs.distributor.bit_place.Tie as tie
 
@@ -30,8 +31,8 @@ mul-first c =
     in search needs
 
 returns : tie.Need-returns
-unfolding placeAt isPrivate firstNumber
-returns c = simp (← c .before .before .pre .class-at, c .before .distance .ensures, c .numbers-per-byte .ensures)
+unfolding placeAt firstNumber
+returns c = simp (private-below (c .before .before .args .offset), ← c .before .before .pre .class-at, c .before .distance .ensures, c .numbers-per-byte .ensures)
 
 pub bit-place-spec : {M : Type 1} → statement M
 bit-place-spec = tie.close (tie.spec distance-requires numbers-per-byte-requires mul-first returns)

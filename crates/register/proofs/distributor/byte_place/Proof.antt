@@ -1,7 +1,8 @@
 -- `byte_place` is `placeAt` where a byte register is.
 use native.Mathlib.Nat.{mul-one}
 use borrow.Author.Needs.{needs}
-use Rattle.register.specs.Distributor.{placeAt, firstNumber, isPrivate}
+use Rattle.register.specs.Distributor.{placeAt, firstNumber}
+use Rattle.register.proofs.Private.{private-below}
 use Rattle.register.proofs.distributor.byte_place.Statement.{statement}
 use Rattle.register.proofs.distributor.byte_place.Tie as tie
 
@@ -12,8 +13,8 @@ is-priority-requires : tie.Need-is-priority-requires
 is-priority-requires c κs = search needs
 
 returns : tie.Need-returns
-unfolding placeAt isPrivate firstNumber
-returns c = simp (← c .before .before .pre .class-at, c .before .distance .ensures, c .is-priority .ensures, mul-one)
+unfolding placeAt firstNumber
+returns c = simp (private-below (c .before .before .args .offset), ← c .before .before .pre .class-at, c .before .distance .ensures, c .is-priority .ensures, mul-one)
 
 pub byte-place-spec : {M : Type 1} → statement M
 byte-place-spec = tie.close (tie.spec distance-requires is-priority-requires returns)

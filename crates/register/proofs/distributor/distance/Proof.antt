@@ -4,7 +4,7 @@ use Prim.Native.Nat.{ℕ}
 use borrow.Author.Needs.{needs}
 use Rattle.register.specs.declared.ranges.Class.{Class}
 use Rattle.register.specs.declared.ranges.RegisterRange.{RegisterRange}
-use Rattle.register.specs.Distributor.{Found}
+use Rattle.register.specs.Finding.{Found}
 use Rattle.register.specs.Ranges.{rangeAt, rangeOf}
 use Rattle.register.proofs.Map.{range-starts, range-of-class}
 use Rattle.register.proofs.distributor.distance.Statement.{statement}

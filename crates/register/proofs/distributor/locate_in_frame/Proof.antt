@@ -3,7 +3,8 @@ use mathlib.Core.Path.{_≡_, sym, _∙_}
 use Prim.Native.Nat.{ℕ}
 use borrow.Author.Needs.{needs}
 use Rattle.register.specs.declared.ranges.Class.{Class}
-use Rattle.register.specs.Distributor.{Found, locateInFrame}
+use Rattle.register.specs.Distributor.{locateInFrame}
+use Rattle.register.specs.Finding.{Found}
 use Rattle.register.specs.Ranges.{classAt}
 use Rattle.register.proofs.distributor.locate_in_frame.Statement.{statement}
 use Rattle.register.proofs.distributor.locate_in_frame.Tie as tie
