@@ -55,7 +55,8 @@ sourceTaken shape v n source s = cond (isSgi (record { 0 = n })) (pendIfLeft sha
 unfoldable pub givenRecord : ℕ → InterruptRecord → InterruptRecord
 givenRecord v r = synchronizeInflight (setOwner (markInflight r) (Vcpu (record { 0 = v }))) Active .after
 
--- ".. and pushes number and priority", which touches the stack alone; the source is taken last, for it may pend the record again
+-- ".. and pushes number and priority": here before the record is marked, which is the same (`given-in-order` in crates/delivery); the source is
+-- taken last, for it may pend the record again
 unfoldable pub given : Shape → ℕ → Entry → List ℕ → List ℕ
 given shape v e s = sourceTaken shape v (e .intid .0) (sourceOf shape v (e .intid .0) s) (changed shape v (e .intid .0) (givenRecord v) (pushed shape v e s))
 

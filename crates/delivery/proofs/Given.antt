@@ -1,6 +1,6 @@
 -- What an acknowledge leaves: the old stack with the new entry on it, the record given, of an SGI the sources but the one taken, and every
 -- other slot as it was. Assumes nothing.
-use mathlib.Core.Path.{_≡_, refl, ap, _∙_}
+use mathlib.Core.Path.{_≡_, refl, sym, ap, _∙_}
 use mathlib.Core.Bool.{Bool, true, false, cond}
 use mathlib.Core.List.{List, _∷_}
 use Prim.Native.Nat.{ℕ, _+_, _-_, _%_, _^_, _≤_, _<_}
@@ -17,8 +17,8 @@ use Rattle.state.specs.declared.layout.Shape.{Shape}
 use Rattle.state.specs.declared.layout.InterfaceValue.the-variants.{Depth}
 use Rattle.state.specs.declared.words.Entry.{Entry}
 use Rattle.state.specs.Layout.{Slot, Interface, Sources, Stack, Exists, Room}
-use Rattle.state.specs.Words.{wordAt, recordSlot, RecordThere, recordAt, changed, sourcesAt, withSources}
-use Rattle.state.proofs.Accessors.{put-room, put-other, record-exists, record-same, sources-same}
+use Rattle.state.specs.Words.{wordAt, put, entryWord, recordSlot, RecordThere, recordAt, changed, sourcesAt, withSources}
+use Rattle.state.proofs.Accessors.{put-room, put-other, put-comm, record-exists, record-same, sources-same}
 use Rattle.state.proofs.SlotKinds.{kinds-apart, record-apart, apart-record}
 use Rattle.sgi.specs.Sgi.{mergedSources}
 use Rattle.service.specs.Service.{depthAt, stackAt, pushed}
@@ -70,6 +70,40 @@ module _ (shape : Shape) (v n source : ℕ) (there : RecordThere shape v n) wher
 module _ (shape : Shape) (v : ℕ) (e : Entry) (s : List ℕ) (g : Givable shape v e s) where
   there : RecordThere shape v (e .intid .0)
   there = record { numbered = g .numbered; banked = λ b. g .served .exists }
+
+  -- the steps in document 01's order, in which the record is marked before the push
+  pub given-in-order : given shape v e s ≡ sourceTaken shape v (e .intid .0) (sourceOf shape v (e .intid .0) s) (pushed shape v e (changed shape v (e .intid .0) (givenRecord v) s))
+  unfolding given pushed
+  given-in-order =
+      ap (sourceTaken shape v n (sourceOf shape v n s))
+      (ap (λ (x : ℕ). put shape slot (wordOf (givenRecord v (recordOf x))) (pushed shape v e s)) (pushed-others shape v e s (g .served) (g .room) slot it off-depth off-stack)
+      ∙ put-comm shape (put shape depth (d + 1) s) (Stack v d) slot (entryWord e) marked (g .served .exists, g .room) it (λ p. off-stack (sym p))
+      ∙ ap (put shape (Stack v d) (entryWord e)) (put-comm shape s depth slot (d + 1) marked (g .served .exists) it (λ p. off-depth (sym p)))
+      ∙ ap (λ (x : ℕ). put shape (Stack v x) (entryWord e) (put shape depth (x + 1) (put shape slot marked s))) (sym (put-other shape s depth slot marked (g .served .exists) it (λ p. off-depth (sym p)))))
+    where
+      n : ℕ
+      n = e .intid .0
+
+      d : ℕ
+      d = depthAt shape v s
+
+      slot : Slot
+      slot = recordSlot v n
+
+      depth : Slot
+      depth = Interface v Depth
+
+      marked : ℕ
+      marked = wordOf (givenRecord v (recordAt shape v n s))
+
+      it : Exists shape slot
+      it = record-exists shape v n there
+
+      off-depth : slot ≡ depth → ⊥
+      off-depth = record-apart v n depth (λ p. absurd (omega (arith, p)))
+
+      off-stack : slot ≡ Stack v d → ⊥
+      off-stack = record-apart v n (Stack v d) (λ p. absurd (omega (arith, p)))
 
   -- after the push only the record and the sources change
   after-push : (t : Slot) → Exists shape t → (t ≡ recordSlot v (e .intid .0) → ⊥) → (t ≡ Sources v (e .intid .0) → ⊥) → wordAt shape t (given shape v e s) ≡ wordAt shape t (pushed shape v e s)

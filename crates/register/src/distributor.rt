@@ -87,11 +87,11 @@ fn bit_place(register: BitRegister, offset: u64) -> Place
     ensures { λ r. ⌜ r ≡ placeAt offset ⌝ }
 {
     let class = Class::Bits(register);
-    let first = distance(class, offset) * register.numbers_per_byte();
+    let first = IntId(distance(class, offset) * register.numbers_per_byte());
     Place {
         class,
-        first: IntId(first),
-        private: first < 32,
+        first,
+        private: first.is_private(),
     }
 }
 
@@ -100,11 +100,11 @@ fn byte_place(register: ByteRegister, offset: u64) -> Place
     ensures { λ r. ⌜ r ≡ placeAt offset ⌝ }
 {
     let class = Class::Bytes(register);
-    let first = distance(class, offset);
+    let first = IntId(distance(class, offset));
     Place {
         class,
-        first: IntId(first),
-        private: register.is_priority() & (first < 32),
+        first,
+        private: register.is_priority() & first.is_private(),
     }
 }
 

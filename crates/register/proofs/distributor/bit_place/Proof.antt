@@ -23,16 +23,19 @@ small-first {n} d r e h =
     let few : n ≤ 8 = subst⁻¹ (λ (k : ℕ). k ≤ 8) e (few-numbers r) in
     lt-of-le-of-lt (mul-le-mul-left d few) (omega arith)
 
-mul-first : tie.Need-mul-first
-mul-first c =
+mul-t7 : tie.Need-mul-t7
+mul-t7 c =
     let near : c .before .distance .result < 0x1000 = search needs in
     let small : c .before .distance .result * c .numbers-per-byte .result < 2 ^ 15 =
     small-first (c .before .distance .result) (c .before .before .args .register) (c .numbers-per-byte .ensures) near
     in search needs
 
+is-private-requires : tie.Need-is-private-requires
+is-private-requires c κs = search needs
+
 returns : tie.Need-returns
 unfolding placeAt firstNumber
-returns c = simp (private-below (c .before .before .args .offset), ← c .before .before .pre .class-at, c .before .distance .ensures, c .numbers-per-byte .ensures)
+returns c = simp (c .is-private .ensures, private-below (c .before .before .before .args .offset), ← c .before .before .before .pre .class-at, c .before .before .distance .ensures, c .before .numbers-per-byte .ensures)
 
 pub bit-place-spec : {M : Type 1} → statement M
-bit-place-spec = tie.close (tie.spec distance-requires numbers-per-byte-requires mul-first returns)
+bit-place-spec = tie.close (tie.spec distance-requires numbers-per-byte-requires mul-t7 is-private-requires returns)

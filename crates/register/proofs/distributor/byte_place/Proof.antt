@@ -12,9 +12,12 @@ distance-requires c κs = search needs
 is-priority-requires : tie.Need-is-priority-requires
 is-priority-requires c κs = search needs
 
+is-private-requires : tie.Need-is-private-requires
+is-private-requires c κs = search needs
+
 returns : tie.Need-returns
 unfolding placeAt firstNumber
-returns c = simp (private-below (c .before .before .args .offset), ← c .before .before .pre .class-at, c .before .distance .ensures, c .is-priority .ensures, mul-one)
+returns c = simp (c .is-private .ensures, private-below (c .before .before .before .args .offset), ← c .before .before .before .pre .class-at, c .before .before .distance .ensures, c .before .is-priority .ensures, mul-one)
 
 pub byte-place-spec : {M : Type 1} → statement M
-byte-place-spec = tie.close (tie.spec distance-requires is-priority-requires returns)
+byte-place-spec = tie.close (tie.spec distance-requires is-priority-requires is-private-requires returns)
