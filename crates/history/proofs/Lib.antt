@@ -4,3 +4,4 @@ pub mod Calls
 pub mod Chains
 pub mod Each
 pub mod Made
+pub mod Refusals

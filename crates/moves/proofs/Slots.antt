@@ -1,4 +1,4 @@
--- Which slots a move touches: every other slot stays, and so does the room. Assumes nothing.
+-- Which slots a move touches: every other slot stays, and so does the room, in any words that pass the test of refusal 6. Assumes nothing.
 use mathlib.Core.Path.{_≡_, refl, sym, subst, _∙_}
 use mathlib.Core.Bool.{not}
 use mathlib.Core.List.{List}
@@ -18,13 +18,12 @@ use Rattle.state.proofs.Numbers.{Of}
 use Rattle.state.proofs.SlotKinds.{kindOf, kinds-apart, record-kind, apart-record}
 use Rattle.sgi.specs.Sgi.{mergedSources}
 use Rattle.sgi.proofs.Rings.{sgi-exists}
-use Rattle.service.specs.Service.{Served}
+use Rattle.service.specs.Service.{Served, Sound}
+use Rattle.service.proofs.Soundness.{sound-served}
 use Rattle.service.proofs.Stacks.{popped-room, popped-others}
 use Rattle.acknowledge.specs.Acknowledge.{Givable}
 use Rattle.acknowledge.proofs.Offers.{offer-below}
 use Rattle.delivery.proofs.Given.{given-room, given-others}
-use Rattle.lawful.specs.Lawful.{Lawful}
-use Rattle.lawful.proofs.Depths.{at-most-255, offer-room}
 use Rattle.moves.specs.Moves.{Move, Changed, Sourced, Kept, Switched, Given, Popped, becomes, moved, Giving, Open}
 
 -- the slots of a vCPU's stack
@@ -49,25 +48,21 @@ Touches (Switched on) t = t ≡ DistributorControl
 Touches (Given v e) t = Of v (e .intid .0) t ⊎ StackOf v t
 Touches (Popped v) t = StackOf v t
 
-module _ (shape : Shape) (s : List ℕ) (h : Lawful shape s) where
+module _ (shape : Shape) (s : List ℕ) (h : Sound shape s) where
   pub served : (v : ℕ) → v < shape .count → Served shape v s
-  served v exists = record { state = h .in-range .state; exists = exists; deep = at-most-255 shape v s (h .orderly) exists }
+  served v exists = sound-served v h exists
 
   pub givable : (v : ℕ) (e : Entry) → Giving shape v e s → Givable shape v e s
-  givable v e o = record {
-    served = served v (o .exists);
-    room = offer-room shape v s (h .orderly) (o .exists) e (o .offered);
-    numbered = offer-below shape v s e (o .offered);
-  }
+  givable v e o = record { served = served v (o .exists); room = o .room; numbered = offer-below shape v s e (o .offered) }
 
   pub move-room : (m : Move) → Open shape m s → Room shape (moved shape m s)
-  move-room (Changed v n c) o = put-room shape s (recordSlot v n) (wordOf (becomes c (recordAt shape v n s))) (h .in-range .state)
+  move-room (Changed v n c) o = put-room shape s (recordSlot v n) (wordOf (becomes c (recordAt shape v n s))) (h .state)
   move-room (Sourced v n on byte) o =
       let x = mergedSources on (sourcesAt shape v n s) byte in
       let after = withSources shape v n x s in
-      put-room shape after (recordSlot v n) (wordOf (setPending (recordAt shape v n after) (not (eqb x 0)))) (put-room shape s (Sources v n) x (h .in-range .state))
-  move-room (Kept v k x) o = put-room shape s (Interface v k) (kept k x) (h .in-range .state)
-  move-room (Switched on) o = put-room shape s DistributorControl (bitOf on) (h .in-range .state)
+      put-room shape after (recordSlot v n) (wordOf (setPending (recordAt shape v n after) (not (eqb x 0)))) (put-room shape s (Sources v n) x (h .state))
+  move-room (Kept v k x) o = put-room shape s (Interface v k) (kept k x) (h .state)
+  move-room (Switched on) o = put-room shape s DistributorControl (bitOf on) (h .state)
   move-room (Given v e) o = given-room shape v e s (givable v e o)
   move-room (Popped v) o = popped-room shape v s (served v (o .exists)) (o .some)
 
@@ -77,7 +72,7 @@ module _ (shape : Shape) (s : List ℕ) (h : Lawful shape s) where
       let y = mergedSources on (sourcesAt shape v n s) byte in
       let after = withSources shape v n y s in
       let slot : Exists shape (Sources v n) = (o .exists, o .sgi) in
-      put-other shape after t (recordSlot v n) (wordOf (setPending (recordAt shape v n after) (not (eqb y 0)))) x (sgi-exists shape v n (h .in-range .state .limits) slot) (λ p. away (inl p))
+      put-other shape after t (recordSlot v n) (wordOf (setPending (recordAt shape v n after) (not (eqb y 0)))) x (sgi-exists shape v n (h .state .limits) slot) (λ p. away (inl p))
       ∙ put-other shape s t (Sources v n) y x slot (λ p. away (inr p))
   move-others (Kept v k y) o t x away = put-other shape s t (Interface v k) (kept k y) x (o .exists) away
   move-others (Switched on) o t x away = put-other shape s t DistributorControl (bitOf on) x tt away

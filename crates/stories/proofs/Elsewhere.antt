@@ -25,11 +25,12 @@ use Rattle.state.proofs.Tests.{left-true, right-true}
 use Rattle.sgi.specs.Sgi.{sgiTarget, includes}
 use Rattle.lawful.specs.Lawful.{Controls}
 use Rattle.moves.specs.Moves.{Move, Changed, Sourced, Kept, Switched, Given, Popped, Open}
-use Rattle.moves.proofs.Controllers.{chain-keeps}
-use Rattle.moves.proofs.Slots.{StackOf, Touches, move-others}
+use Rattle.moves.proofs.Slots.{StackOf, Touches}
+use Rattle.moves.proofs.Sounds.{lawful-sound, chain-others}
 use Rattle.history.specs.History.{Call, Setup, ReadDistributor, WriteDistributor, ReadCpuInterface, WriteCpuInterface, SetLevel, Pulse, isSetup, called, run}
 use Rattle.history.proofs.Always.{every-other-call}
 use Rattle.history.proofs.Calls.{call-chain}
+use Rattle.history.proofs.Each.{valid}
 use Rattle.history.proofs.Made.{byteMove, ClassMade, PlaceMade, ReadMade, WriteMade, Made}
 use Rattle.stories.specs.Stories.{leavesAt, leaves, elsewhere, allElsewhere}
 
@@ -160,12 +161,10 @@ module _ (t n : ℕ) where
     no-setup (Pulse v k) e = refl
 
     call-agrees : (shape : Shape) (c : Call) → elsewhere t n c ≡ true → (s : List ℕ) → Controls shape s → Agree shape (Concerns t n) (called c s .state) s
-    call-agrees shape c e s h =
-        chain-keeps (λ r. Agree shape (Concerns t n) r s)
-        (λ m r made o controls before. record {
-          agree = λ x exists con. move-others shape r (controls .lawful) m o x exists (untouched m (made-away shape c e m r made o) x con) ∙ before .agree x exists con;
-        })
-        (call-chain shape s h c (no-setup c e)) h (record { agree = λ x exists con. refl })
+    call-agrees shape c e s h = record {
+      agree = λ x exists con.
+          chain-others x exists (λ m r made o. untouched m (made-away shape c e m r made o) x con) (call-chain shape s (valid shape s h) c (no-setup c e)) (lawful-sound (h .lawful));
+    }
 
     -- over a history: a controller still, and all as it was
     pub elsewhere-controls : (shape : Shape) (cs : List Call) → allElsewhere t n cs ≡ true → (s : List ℕ) → Controls shape s → Controls shape (run cs s)
