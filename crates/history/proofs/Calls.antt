@@ -1,9 +1,10 @@
 -- Every call but setup, to any words that pass the test of refusal 6, is a chain of moves, each one that the call makes; a refused call is the
 -- chain of none. Assumes nothing.
-use mathlib.Core.Path.{_≡_, refl, sym, subst}
+use mathlib.Core.Path.{_≡_, refl, sym, subst, _∙_}
 use mathlib.Core.Bool.{Bool, true, false, cond, _&&_}
 use mathlib.Core.List.{List}
 use Prim.Native.Nat.{ℕ, _%_, _^_, _<_}
+use native.Mathlib.Omega.{arith}
 use lib.Dec.{ltb}
 use borrow.Author.Tests.{ltb-true}
 use Rattle.register.specs.declared.frame.AccessWidth.{AccessWidth}
@@ -16,11 +17,12 @@ use Rattle.state.specs.declared.layout.Shape.{Shape}
 use Rattle.state.specs.declared.layout.InterfaceValue.{InterfaceValue}
 use Rattle.state.specs.declared.layout.InterfaceValue.the-variants.{Control, PriorityMask, BinaryPoint, Depth}
 use Rattle.state.specs.declared.lent.Lent.the-variants as lent
-use Rattle.state.specs.Lent.{validated}
-use Rattle.state.specs.Layout.{Interface}
+use Rattle.state.specs.Lent.{shaped, validated}
+use Rattle.state.specs.Layout.{Count, Limit, Interface}
 use Rattle.state.specs.Words.{RecordThere, recordAt, enabledAt}
 use Rattle.state.proofs.Canonical.{OffStack}
 use Rattle.state.proofs.Tests.{left-true, right-true}
+use Rattle.state.proofs.Validated.{validated-held, held-validated}
 use Rattle.service.specs.Service as service
 use Rattle.service.proofs.Soundness.{validated-sound}
 use Rattle.acknowledge.specs.Acknowledge.{acknowledge, acknowledged}
@@ -33,7 +35,8 @@ use Rattle.cpu_interface_frame.specs.CpuInterfaceFrame.{readAnswer}
 use Rattle.moves.specs.Moves as moves
 use Rattle.moves.specs.Moves.{Change, Changed, Kept, Given, Popped, OffDepth, Chain, none}
 use Rattle.moves.proofs.Acknowledges.{each-acknowledge}
-use Rattle.moves.proofs.Slots.{served}
+use Rattle.moves.proofs.Slots.{served, touched-kind}
+use Rattle.moves.proofs.Sounds.{chain-sound, chain-others}
 use Rattle.history.specs.History.{Call, SetLevel, Pulse, isSetup, called}
 use Rattle.history.proofs.Chains.{one, join, if-chain, place-chain}
 use Rattle.history.proofs.Made.{PlaceMade, ReadMade, WriteMade, Made}
@@ -98,3 +101,13 @@ module _ (shape : Shape) (s : List ℕ) (h : validated s ≡ lent.Sound shape) w
       (λ v offset width value place p at. distributor-chain v width (value % 2 ^ 32) place (locateDistributor offset width) p at)
       (λ v n asserted there past. one (Changed v n (moves.SetLevel asserted)) refl (record { there = there; fits = past }))
       (λ v n there past. one (Changed v n moves.Pulse) refl (record { there = there; fits = past }))
+
+  -- and the words stay a state of this count and limit
+  pub call-valid : (c : Call) → isSetup c ≡ false → validated (called c s .state) ≡ lent.Sound shape
+  call-valid c e =
+      let chain = call-chain c e in
+      let after = chain-sound chain sound in
+      let count = chain-others Count tt (λ m q made o p. absurd (omega (arith, touched-kind m Count p))) chain sound in
+      let limit = chain-others Limit tt (λ m q made o p. absurd (omega (arith, touched-kind m Limit p))) chain sound in
+      held-validated (called c s .state) shape
+      (record { stored = validated-held s shape h .stored ∙ (λ i. shaped (sym count i) (sym limit i)); state = after .state; depths = after .depths })

@@ -18,7 +18,8 @@ use Rattle.register.specs.declared.frame.Refusal.the-variants as refusal
 use Rattle.register.specs.Distributor.{locateDistributor}
 use Rattle.register.specs.CpuInterface.{locateCpuInterface, registerAt}
 use Rattle.state.specs.declared.layout.Shape.{Shape}
-use Rattle.state.specs.declared.lent.Lent.the-variants.{Sound}
+use Rattle.state.specs.declared.lent.Lent.{Lent}
+use Rattle.state.specs.declared.lent.Lent.the-variants.{Sound, Broken}
 use Rattle.state.specs.Lent.{validated}
 use Rattle.state.specs.Words.{RecordThere, changed, enabledAt}
 use Rattle.state.proofs.Tests.{left-true}
@@ -195,3 +196,24 @@ module _ (shape : Shape) (s : List ℕ) (h : validated s ≡ Sound shape) (P : C
   each-call (WriteCpuInterface v offset width value) e = rw h (interface-write v offset width value (locateCpuInterface offset width) (interface-access offset width))
   each-call (SetLevel v n asserted) e = rw h (input (SetLevel v n asserted) refl v n (Level asserted) (levels v n asserted) (inputOf shape n) refl (input-is shape n))
   each-call (Pulse v n) e = rw h (input (Pulse v n) refl v n Edge (pulses v n) (inputOf shape n) refl (input-is shape n))
+
+-- to any words at all: those that are no state are refused by 6
+module _ (s : List ℕ) (P : Call → Outcome → Type 0)
+    (breaks : (c : Call) → isSetup c ≡ false → P c (refused refusal.BrokenState s))
+    (holds : (shape : Shape) → validated s ≡ Sound shape → (c : Call) → isSetup c ≡ false → P c (called c s)) where
+  broken : validated s ≡ Broken → (c : Call) → isSetup c ≡ false → P c (called c s)
+  unfolding readV2Distributor writeV2Distributor readV2CpuInterface writeV2CpuInterface deviceInput
+  broken p (Setup count limit) e = absurd (true≢false e)
+  broken p (ReadDistributor v offset width) e = rw p (breaks (ReadDistributor v offset width) e)
+  broken p (WriteDistributor v offset width value) e = rw p (breaks (WriteDistributor v offset width value) e)
+  broken p (ReadCpuInterface v offset width) e = rw p (breaks (ReadCpuInterface v offset width) e)
+  broken p (WriteCpuInterface v offset width value) e = rw p (breaks (WriteCpuInterface v offset width value) e)
+  broken p (SetLevel v n asserted) e = rw p (breaks (SetLevel v n asserted) e)
+  broken p (Pulse v n) e = rw p (breaks (Pulse v n) e)
+
+  pub any-words : (c : Call) → isSetup c ≡ false → P c (called c s)
+  any-words c e = go (validated s) refl
+    where
+      go : (l : Lent) → validated s ≡ l → P c (called c s)
+      go Broken p = broken p c e
+      go (Sound shape) p = holds shape p c e

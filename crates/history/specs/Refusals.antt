@@ -8,7 +8,8 @@ use lib.Dec.{eqb}
 use Rattle.answer.specs.Answer.{Outcome}
 use Rattle.history.specs.History.{Call, Setup, ReadDistributor, WriteDistributor, ReadCpuInterface, WriteCpuInterface, SetLevel, Pulse}
 
--- "Order: 6, then 1, then 2, then 3, then 7. Setup: 4, 5. Device input: 6, 8, 3"; 7 is for an acknowledge, which is a read of a CPU interface
+-- the numbers that a call may be refused by: "Order: 6, then 1, then 2, then 3, then 7. Setup: 4, 5. Device input: 6, 8, 3"; 7 is for an
+-- acknowledge, which is a read of a CPU interface
 abbrev pub refusals : Call → List ℕ
 refusals (Setup count limit) = 4 ∷ 5 ∷ []
 refusals (ReadDistributor v offset width) = 6 ∷ 1 ∷ 2 ∷ 3 ∷ []

@@ -1,5 +1,5 @@
--- An acknowledge in any words that pass the test of refusal 6: it makes the move `Given` and answers its number, or it answers 1023 or is refused
--- by 7 and changes nothing. Assumes nothing.
+-- An acknowledge in any words that pass the test of refusal 6: it makes the move `Given` and answers its number, or it answers 1023 or is
+-- refused by 7 and changes nothing. Assumes nothing.
 use mathlib.Core.Path.{_≡_, refl}
 use mathlib.Core.Bool.{Bool, true, false}
 use mathlib.Core.List.{List}

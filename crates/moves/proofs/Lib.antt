@@ -1,4 +1,4 @@
--- What each move leaves alone, and that each keeps a controller a controller.
+-- What each move leaves alone, in any words that are a state; and that each keeps a controller a controller.
 pub mod Acknowledges
 pub mod Controllers
 pub mod Frames

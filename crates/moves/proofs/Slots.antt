@@ -40,6 +40,20 @@ StackOf v (Private u n) = ⊥
 StackOf v (Spi n) = ⊥
 StackOf v (Stack u i) = u ≡ v
 
+-- .. are its depth and its entries
+pub each-stack : (v : ℕ) (P : Slot → Type 0) → P (Interface v Depth) → ((i : ℕ) → P (Stack v i)) → (t : Slot) → StackOf v t → P t
+each-stack v P depth entries Count p = absurd p
+each-stack v P depth entries Limit p = absurd p
+each-stack v P depth entries DistributorControl p = absurd p
+each-stack v P depth entries (Interface u Control) p = absurd p
+each-stack v P depth entries (Interface u PriorityMask) p = absurd p
+each-stack v P depth entries (Interface u BinaryPoint) p = absurd p
+each-stack v P depth entries (Interface u Depth) p = subst (λ (w : ℕ). P (Interface w Depth)) (sym p) depth
+each-stack v P depth entries (Sources u n) p = absurd p
+each-stack v P depth entries (Private u n) p = absurd p
+each-stack v P depth entries (Spi n) p = absurd p
+each-stack v P depth entries (Stack u i) p = subst (λ (w : ℕ). P (Stack w i)) (sym p) (entries i)
+
 abbrev pub Touches : Move → Slot → Type 0
 Touches (Changed v n c) t = t ≡ recordSlot v n
 Touches (Sourced v n on byte) t = Of v n t
@@ -93,14 +107,7 @@ of-kind v n t (inl p) = rw (p, record-kind v n) (omega arith)
 of-kind v n t (inr p) = rw p (omega arith)
 
 stack-kind : (v : ℕ) (t : Slot) → StackOf v t → 2 ≤ kindOf t
-stack-kind v Count p = absurd p
-stack-kind v Limit p = absurd p
-stack-kind v DistributorControl p = absurd p
-stack-kind v (Interface u k) p = omega arith
-stack-kind v (Sources u n) p = omega arith
-stack-kind v (Private u n) p = omega arith
-stack-kind v (Spi n) p = omega arith
-stack-kind v (Stack u i) p = omega arith
+stack-kind v = each-stack v (λ t. 2 ≤ kindOf t) (omega arith) (λ i. omega arith)
 
 pub touched-kind : (m : Move) (t : Slot) → Touches m t → 2 ≤ kindOf t
 touched-kind (Changed v n c) t p = of-kind v n t (inl p)

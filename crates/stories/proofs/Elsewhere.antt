@@ -17,7 +17,6 @@ use Rattle.register.specs.declared.distributor.DistributorAccess.the-variants.{
 use Rattle.register.specs.Distributor.{locateDistributor}
 use Rattle.word.specs.Fields.{fieldAt}
 use Rattle.state.specs.declared.layout.Shape.{Shape}
-use Rattle.state.specs.declared.layout.InterfaceValue.the-variants.{Control, PriorityMask, BinaryPoint, Depth}
 use Rattle.state.specs.Layout.{Slot, Count, Limit, DistributorControl, Interface, Sources, Private, Spi, Stack}
 use Rattle.state.specs.Words.{recordSlot}
 use Rattle.state.proofs.Steps.{Agree}
@@ -25,7 +24,7 @@ use Rattle.state.proofs.Tests.{left-true, right-true}
 use Rattle.sgi.specs.Sgi.{sgiTarget, includes}
 use Rattle.lawful.specs.Lawful.{Controls}
 use Rattle.moves.specs.Moves.{Move, Changed, Sourced, Kept, Switched, Given, Popped, Open}
-use Rattle.moves.proofs.Slots.{StackOf, Touches}
+use Rattle.moves.proofs.Slots.{StackOf, each-stack, Touches}
 use Rattle.moves.proofs.Sounds.{lawful-sound, chain-others}
 use Rattle.history.specs.History.{Call, Setup, ReadDistributor, WriteDistributor, ReadCpuInterface, WriteCpuInterface, SetLevel, Pulse, isSetup, called, run}
 use Rattle.history.proofs.Always.{every-other-call}
@@ -67,17 +66,7 @@ module _ (t n : ℕ) where
   of-sources v k x p c = subst (Concerns t n) p c
 
   of-stack : (v : ℕ) (x : Slot) → StackOf v x → Concerns t n x → v ≡ t
-  of-stack v Count p c = absurd p
-  of-stack v Limit p c = absurd p
-  of-stack v DistributorControl p c = absurd p
-  of-stack v (Interface u Control) p c = absurd p
-  of-stack v (Interface u PriorityMask) p c = absurd p
-  of-stack v (Interface u BinaryPoint) p c = absurd p
-  of-stack v (Interface u Depth) p c = sym p ∙ c
-  of-stack v (Sources u k) p c = absurd p
-  of-stack v (Private u k) p c = absurd p
-  of-stack v (Spi k) p c = absurd p
-  of-stack v (Stack u i) p c = sym p ∙ c
+  of-stack v = each-stack v (λ x. Concerns t n x → v ≡ t) (λ c. c) (λ i c. c)
 
   untouched : (m : Move) → Away t n m → (x : Slot) → Concerns t n x → Touches m x → ⊥
   untouched (Changed v k c) away x con p = let q = of-record v k x p con in away (q .0) (q .1)
