@@ -8,7 +8,9 @@ use native.Mathlib.Omega.{arith}
 use lib.Dec.{leb}
 use lib.ListN.{length, getD}
 use borrow.Author.Tests.{leb-true, not-true}
-use Rattle.register.specs.declared.frame.Refusal.the-variants.{ShortState}
+use Rattle.register.specs.declared.frame.Refusal.{Refusal}
+use Rattle.register.specs.declared.frame.Refusal.the-variants as refusal
+use Rattle.register.specs.Frame.{refusalNumber}
 use Rattle.state.specs.declared.layout.Shape.{Shape}
 use Rattle.state.specs.declared.lent.Limited.{Limited}
 use Rattle.state.specs.declared.lent.Limited.the-variants.{Within, Outside}
@@ -20,27 +22,27 @@ use Rattle.state.proofs.Starting.{fresh-past}
 use Rattle.state.proofs.Tests.{left-true, right-true}
 use Rattle.state.proofs.Validated.{limited-shape, limited-limits}
 use Rattle.service.specs.Service.{depthAt}
-use Rattle.acknowledge.specs.declared.Read.{Read}
-use Rattle.acknowledge.specs.declared.Read.the-variants.{Value, StackFull}
-use Rattle.acknowledge.specs.Acknowledge.{offer, answered, acknowledge, acknowledged, refusalOf}
+use Rattle.acknowledge.specs.Acknowledge.{acknowledge, acknowledged}
 use Rattle.answer.specs.Answer.{Outcome, refused, gave}
 use Rattle.controller.specs.Start.{setupOf, setup}
 use Rattle.cpu_interface_frame.specs.CpuInterfaceFrame.{readAnswer}
 use Rattle.lawful.specs.Lawful.{Orderly, Controls, Controller}
-use Rattle.lawful.proofs.Depths.{at-most-255, never-full}
+use Rattle.lawful.proofs.Depths.{at-most-255, offer-room}
 use Rattle.lawful.proofs.Starting.{fresh-controls}
+use Rattle.moves.proofs.Acknowledges.{each-acknowledge}
 use Rattle.moves.proofs.Controllers.{chain-controls, chain-keeps}
 use Rattle.moves.proofs.Past.{past, move-past}
+use Rattle.moves.proofs.Sounds.{lawful-sound}
 use Rattle.history.specs.History.{Call, Setup, isSetup, called, run, answers, noSetup, Accepted, Ordinary, Each}
 use Rattle.history.proofs.Calls.{call-chain}
-use Rattle.history.proofs.Each.{few, setup-or-other, each-call}
+use Rattle.history.proofs.Each.{few, Refusable, setup-or-other, valid, each-call}
 
 -- setup: refused, with nothing changed, or a fresh state of that count and limit
 module _ (count limit : ℕ) (s : List ℕ) (P : Outcome → Type 0)
-    (refuses : (o : Outcome) → Ordinary (o .refusal) → (o .refusal ≡ 0 → ⊥) → o .state ≡ s → P o)
+    (refuses : (r : Refusal) → Refusable (Setup count limit) (refusalNumber r) → (refusalNumber r ≡ 0 → ⊥) → P (refused r s))
     (starts : Controls (shaped count limit) (fresh (shaped count limit) s) → P (gave 0 (fresh (shaped count limit) s))) where
   fits : (l : Limited) → limited count limit ≡ l → P (setupOf l s)
-  fits Outside p = refuses (setupOf Outside s) (few (omega arith)) (λ e. absurd (omega (arith, e))) refl
+  fits Outside p = refuses refusal.Limits (record { ordinary = few (omega arith); of-call = refl }) (λ e. absurd (omega (arith, e)))
   fits (Within shape) p = subst (λ (k : Shape). P (setupOf (Within k) s)) (sym same) (go (leb (size own) (length s)) refl)
     where
       own : Shape
@@ -49,9 +51,9 @@ module _ (count limit : ℕ) (s : List ℕ) (P : Outcome → Type 0)
       same : shape ≡ own
       same = limited-shape count limit shape p
 
-      go : (b : Bool) → leb (size own) (length s) ≡ b → P (cond b (gave 0 (fresh own s)) (refused ShortState s))
+      go : (b : Bool) → leb (size own) (length s) ≡ b → P (cond b (gave 0 (fresh own s)) (refused refusal.ShortState s))
       go true e = starts (fresh-controls own s (record { limits = subst Rattle.state.specs.Layout.Limits same (limited-limits count limit shape p); room = leb-true (size own) (length s) e }))
-      go false e = refuses (refused ShortState s) (few (omega arith)) (λ q. absurd (omega (arith, q))) refl
+      go false e = refuses refusal.ShortState (record { ordinary = few (omega arith); of-call = refl }) (λ q. absurd (omega (arith, q)))
 
   pub setup-cases : P (called (Setup count limit) s)
   unfolding setup
@@ -60,16 +62,16 @@ module _ (count limit : ℕ) (s : List ℕ) (P : Outcome → Type 0)
 -- "a fresh controller": what an accepted setup leaves, whatever the words held
 pub a-fresh-controller : (count limit : ℕ) (s : List ℕ) → Accepted count limit s → Controls (shaped count limit) (called (Setup count limit) s .state)
 a-fresh-controller count limit s =
-    setup-cases count limit s (λ o. o .refusal ≡ 0 → Controls (shaped count limit) (o .state)) (λ o ordinary no same e. absurd (no e)) (λ controls e. controls)
+    setup-cases count limit s (λ o. o .refusal ≡ 0 → Controls (shaped count limit) (o .state)) (λ r may no e. absurd (no e)) (λ controls e. controls)
 
 -- every call keeps a controller, of its count and limit if it is no setup
 pub every-other-call : (shape : Shape) (c : Call) → isSetup c ≡ false → (s : List ℕ) → Controls shape s → Controls shape (called c s .state)
-every-other-call shape c e s h = chain-controls (call-chain shape s h c e) h
+every-other-call shape c e s h = chain-controls (call-chain shape s (valid shape s h) c e) h
 
 pub every-call : (c : Call) (s : List ℕ) → Controller s → Controller (called c s .state)
 every-call c s h =
     setup-or-other (λ d. Controller (called d s .state))
-    (λ count limit. setup-cases count limit s (λ o. Controller (o .state)) (λ o ordinary no same. subst Controller (sym same) h) (λ controls. record { shape = shaped count limit; controls = controls }))
+    (λ count limit. setup-cases count limit s (λ o. Controller (o .state)) (λ r may no. h) (λ controls. record { shape = shaped count limit; controls = controls }))
     (λ d e. record { shape = h .shape; controls = every-other-call (h .shape) d e s (h .controls) })
     c
 
@@ -92,14 +94,14 @@ past-stays shape [] e s h = refl
 past-stays shape (c ∷ cs) e s h =
     let other : isSetup c ≡ false = not-true (isSetup c) (left-true (not (isSetup c)) (noSetup cs) e) in
     past-stays shape cs (right-true (not (isSetup c)) (noSetup cs) e) (called c s .state) (every-other-call shape c other s h)
-    ∙ chain-keeps (λ r. past shape r ≡ past shape s) (λ m r made o controls before. move-past shape r (controls .lawful) m o ∙ before) (call-chain shape s h c other) h refl
+    ∙ chain-keeps (λ r. past shape r ≡ past shape s) (λ m r made o controls before. move-past shape r (lawful-sound (controls .lawful)) m o ∙ before) (call-chain shape s (valid shape s h) c other) h refl
 
 pub words-past-stay : (count limit : ℕ) (words : List ℕ) → Accepted count limit words → (cs : List Call) → noSetup cs ≡ true
     → past (shaped count limit) (run (Setup count limit ∷ cs) words) ≡ past (shaped count limit) words
 unfolding run
 words-past-stay count limit words accepted cs e =
     past-stays (shaped count limit) cs e (called (Setup count limit) words .state) (a-fresh-controller count limit words accepted)
-    ∙ setup-cases count limit words (λ o. o .refusal ≡ 0 → past (shaped count limit) (o .state) ≡ past (shaped count limit) words) (λ o ordinary no same q. absurd (no q))
+    ∙ setup-cases count limit words (λ o. o .refusal ≡ 0 → past (shaped count limit) (o .state) ≡ past (shaped count limit) words) (λ r may no q. absurd (no q))
     (λ controls q. fresh-past (shaped count limit) words) accepted
 
 -- no call to a controller is refused by 6, and no acknowledge by 7
@@ -107,25 +109,18 @@ module _ (s : List ℕ) (h : Controller s) where
   abbrev shape : Shape
   shape = h .shape
 
-  -- while the Distributor is off there is nothing to hand out
-  finds-room : (v : ℕ) → (enabledAt shape s ≡ true → v < shape .count) → refusalOf (acknowledge shape v s) ≡ 0
-  unfolding offer answered
-  finds-room v looked = go (enabledAt shape s) refl
-    where
-      go : (b : Bool) → enabledAt shape s ≡ b → refusalOf (acknowledge shape v s) ≡ 0
-      go true e = never-full shape v s (h .controls .lawful .orderly) (looked e)
-      go false e = simp e
-
-  answered-ordinary : (a : Read) (r : List ℕ) → refusalOf a ≡ 0 → Ordinary (readAnswer a s r .refusal)
-  answered-ordinary (Value x) r e = few (omega arith)
-  answered-ordinary StackFull r e = absurd (omega (arith, e))
+  finds-room : (v : ℕ) → (enabledAt shape s ≡ true → v < shape .count) → Ordinary (readAnswer (acknowledge shape v s) s (acknowledged shape v s) .refusal)
+  finds-room v looked =
+      each-acknowledge shape s (lawful-sound (h .controls .lawful)) v looked (λ a r. Ordinary (readAnswer a s r .refusal)) (few (omega arith))
+      (λ e exists p full. absurd (omega (arith, full, offer-room shape v s (h .controls .lawful .orderly) exists e p)))
+      (λ e o. few (omega arith))
 
   other-ordinary : (c : Call) → isSetup c ≡ false → Ordinary (called c s .refusal)
   other-ordinary =
-      each-call shape s (h .controls) (λ c o. Ordinary (o .refusal))
-      (λ c r ordinary. ordinary)
+      each-call shape s (valid shape s (h .controls)) (λ c o. Ordinary (o .refusal))
+      (λ c r may. may .ordinary)
       (λ c x. few (omega arith))
-      (λ v offset width register at is looked. answered-ordinary (acknowledge shape v s) (acknowledged shape v s) (finds-room v looked))
+      (λ v offset width register at is looked. finds-room v looked)
       (λ v offset width value register looked. few (omega arith))
       (λ v offset width value place p at. few (omega arith))
       (λ v n asserted there past. few (omega arith))
@@ -134,7 +129,7 @@ module _ (s : List ℕ) (h : Controller s) where
   pub call-ordinary : (c : Call) → Ordinary (called c s .refusal)
   call-ordinary =
       setup-or-other (λ c. Ordinary (called c s .refusal))
-      (λ count limit. setup-cases count limit s (λ o. Ordinary (o .refusal)) (λ o ordinary no same. ordinary) (λ controls. few (omega arith)))
+      (λ count limit. setup-cases count limit s (λ o. Ordinary (o .refusal)) (λ r may no. may .ordinary) (λ controls. few (omega arith)))
       other-ordinary
 
 -- Demand 3 itself. The count and limit of a history are those that its words store: a later setup may have changed them.

@@ -1,8 +1,10 @@
--- Every call but setup is a chain of moves, each one that the call makes; a refused call is the chain of none. Assumes nothing.
-use mathlib.Core.Path.{_≡_, refl, sym, subst}
+-- Every call but setup, to any words that pass the test of refusal 6, is a chain of moves, each one that the call makes; a refused call is the
+-- chain of none. Assumes nothing.
+use mathlib.Core.Path.{_≡_, refl, sym, subst, _∙_}
 use mathlib.Core.Bool.{Bool, true, false, cond, _&&_}
 use mathlib.Core.List.{List}
 use Prim.Native.Nat.{ℕ, _%_, _^_, _<_}
+use native.Mathlib.Omega.{arith}
 use lib.Dec.{ltb}
 use borrow.Author.Tests.{ltb-true}
 use Rattle.register.specs.declared.frame.AccessWidth.{AccessWidth}
@@ -10,30 +12,31 @@ use Rattle.register.specs.declared.distributor.Place.{Place}
 use Rattle.register.specs.declared.«cpu_interface».CpuInterfaceRegister.{CpuInterfaceRegister}
 use Rattle.register.specs.declared.distributor.DistributorAccess.{DistributorAccess}
 use Rattle.register.specs.declared.distributor.DistributorAccess.the-variants as distributor
-use Rattle.register.specs.declared.«cpu_interface».CpuInterfaceRegister.the-variants.{Iar}
 use Rattle.register.specs.Distributor.{locateDistributor}
 use Rattle.state.specs.declared.layout.Shape.{Shape}
 use Rattle.state.specs.declared.layout.InterfaceValue.{InterfaceValue}
 use Rattle.state.specs.declared.layout.InterfaceValue.the-variants.{Control, PriorityMask, BinaryPoint, Depth}
-use Rattle.state.specs.Layout.{Interface}
+use Rattle.state.specs.declared.lent.Lent.the-variants as lent
+use Rattle.state.specs.Lent.{shaped, validated}
+use Rattle.state.specs.Layout.{Count, Limit, Interface}
 use Rattle.state.specs.Words.{RecordThere, recordAt, enabledAt}
 use Rattle.state.proofs.Canonical.{OffStack}
 use Rattle.state.proofs.Tests.{left-true, right-true}
+use Rattle.state.proofs.Validated.{validated-held, held-validated}
 use Rattle.service.specs.Service as service
-use Rattle.acknowledge.specs.declared.Read.{Read}
-use Rattle.acknowledge.specs.declared.Read.the-variants.{Value, StackFull}
+use Rattle.service.proofs.Soundness.{validated-sound}
 use Rattle.acknowledge.specs.Acknowledge.{acknowledge, acknowledged}
 use Rattle.end.specs.End.{servedHere, onlyActive, deactivated}
-use Rattle.delivery.proofs.Answers.{acknowledged-cases}
 use Rattle.delivery.proofs.Ended.{ended-keeps}
-use Rattle.delivery.proofs.Registers.{read-cases, write-cases}
+use Rattle.delivery.proofs.Registers.{write-cases}
 use Rattle.cpu_interface.specs.CpuInterface as interface-looks
 use Rattle.places.specs.Places as places
-use Rattle.cpu_interface_frame.specs.CpuInterfaceFrame as interface-frame
-use Rattle.lawful.specs.Lawful.{Controls}
+use Rattle.cpu_interface_frame.specs.CpuInterfaceFrame.{readAnswer}
 use Rattle.moves.specs.Moves as moves
 use Rattle.moves.specs.Moves.{Change, Changed, Kept, Given, Popped, OffDepth, Chain, none}
-use Rattle.moves.proofs.Slots.{served}
+use Rattle.moves.proofs.Acknowledges.{each-acknowledge}
+use Rattle.moves.proofs.Slots.{served, touched-kind}
+use Rattle.moves.proofs.Sounds.{chain-sound, chain-others}
 use Rattle.history.specs.History.{Call, SetLevel, Pulse, isSetup, called}
 use Rattle.history.proofs.Chains.{one, join, if-chain, place-chain}
 use Rattle.history.proofs.Made.{PlaceMade, ReadMade, WriteMade, Made}
@@ -63,17 +66,13 @@ off-depth v PriorityMask off = tt
 off-depth v BinaryPoint off = tt
 off-depth v Depth off = off
 
-module _ (shape : Shape) (s : List ℕ) (h : Controls shape s) where
-  -- an acknowledge: an interrupt is given, or nothing changes
-  answer-chain : {v : ℕ} {r : List ℕ} (a : Read) → Chain shape (ReadMade v) s r → Chain shape (ReadMade v) s (interface-frame.readAnswer a s r .state)
-  answer-chain (Value x) c = c
-  answer-chain StackFull c = none
+module _ (shape : Shape) (s : List ℕ) (h : validated s ≡ lent.Sound shape) where
+  sound : service.Sound shape s
+  sound = validated-sound shape s h
 
-  acknowledged-chain : (v : ℕ) → (enabledAt shape s ≡ true → v < shape .count) → Chain shape (ReadMade v) s (acknowledged shape v s)
-  acknowledged-chain v looked =
-      read-cases shape v s (Chain shape (ReadMade v) s) none
-      (λ exists. acknowledged-cases shape v s (served shape s (h .lawful) v exists) (Chain shape (ReadMade v) s) none (λ e p g. one (Given v e) refl (record { exists = exists; offered = p })))
-      Iar looked
+  -- an acknowledge: an interrupt is given, or nothing changes
+  acknowledged-chain : (v : ℕ) → (enabledAt shape s ≡ true → v < shape .count) → Chain shape (ReadMade v) s (readAnswer (acknowledge shape v s) s (acknowledged shape v s) .state)
+  acknowledged-chain v looked = each-acknowledge shape s sound v looked (λ a r. Chain shape (ReadMade v) s (readAnswer a s r .state)) none (λ e exists p full. none) (λ e o. one (Given v e) refl o)
 
   -- a write to a CPU interface
   pub write-chain : (v value : ℕ) (register : CpuInterfaceRegister) → (interface-looks.writeRegisterLooksUp register value ≡ true → v < shape .count)
@@ -81,7 +80,7 @@ module _ (shape : Shape) (s : List ℕ) (h : Controls shape s) where
   write-chain v value register looked =
       write-cases shape v s (Chain shape (WriteMade v) s) none value
       (λ exists k off. one (Kept v k value) refl (record { exists = exists; off-depth = off-depth v k off }))
-      (λ exists n. ended-keeps shape v n s (served shape s (h .lawful) v exists) (Chain shape (WriteMade v) s) none
+      (λ exists n. ended-keeps shape v n s (served shape s sound v exists) (Chain shape (WriteMade v) s) none
       (λ some. one (Popped v) refl (record { exists = exists; some = some }))
       (λ some pop. join pop (deactivated-chain shape v n (service.popped shape v s) exists)))
       (λ exists n. deactivated-chain shape v n s exists)
@@ -90,15 +89,25 @@ module _ (shape : Shape) (s : List ℕ) (h : Controls shape s) where
   pub distributor-chain : (v : ℕ) (width : AccessWidth) (value : ℕ) (place : Place) (a : DistributorAccess) → a ≡ distributor.At place → places.PlaceWritten shape v place width value s
       → Chain shape (PlaceMade shape v a width value) s (places.writePlace shape v place width value s)
   distributor-chain v width value place a p at =
-      subst (λ (x : DistributorAccess). Chain shape (PlaceMade shape v x width value) s (places.writePlace shape v place width value s)) (sym p) (place-chain shape v width value s h place at)
+      subst (λ (x : DistributorAccess). Chain shape (PlaceMade shape v x width value) s (places.writePlace shape v place width value s)) (sym p) (place-chain shape v width value s sound place at)
 
   pub call-chain : (c : Call) → isSetup c ≡ false → Chain shape (Made shape c) s (called c s .state)
   call-chain =
       each-call shape s h (λ c o. Chain shape (Made shape c) s (o .state))
       (λ c r x. none)
       (λ c x. none)
-      (λ v offset width register at is looked. answer-chain (acknowledge shape v s) (acknowledged-chain v looked))
+      (λ v offset width register at is looked. acknowledged-chain v looked)
       (λ v offset width value register looked. write-chain v (value % 2 ^ 32) register looked)
       (λ v offset width value place p at. distributor-chain v width (value % 2 ^ 32) place (locateDistributor offset width) p at)
       (λ v n asserted there past. one (Changed v n (moves.SetLevel asserted)) refl (record { there = there; fits = past }))
       (λ v n there past. one (Changed v n moves.Pulse) refl (record { there = there; fits = past }))
+
+  -- and the words stay a state of this count and limit
+  pub call-valid : (c : Call) → isSetup c ≡ false → validated (called c s .state) ≡ lent.Sound shape
+  call-valid c e =
+      let chain = call-chain c e in
+      let after = chain-sound chain sound in
+      let count = chain-others Count tt (λ m q made o p. absurd (omega (arith, touched-kind m Count p))) chain sound in
+      let limit = chain-others Limit tt (λ m q made o p. absurd (omega (arith, touched-kind m Limit p))) chain sound in
+      held-validated (called c s .state) shape
+      (record { stored = validated-held s shape h .stored ∙ (λ i. shaped (sym count i) (sym limit i)); state = after .state; depths = after .depths })

@@ -33,10 +33,10 @@ use Rattle.sgi.proofs.Rings.{joined-some, merged-fits}
 use Rattle.distributor.specs.Bytes.{writePriority, writeByte, writeBytes, ByteThere, BytesAt}
 use Rattle.places.specs.Places.{sends, writeClass, writePlace, PlaceWritten}
 use Rattle.places.proofs.Fits.{bit-word, byte-run}
-use Rattle.lawful.specs.Lawful.{Controls}
+use Rattle.service.specs.Service.{Sound}
 use Rattle.moves.specs.Moves as moves
 use Rattle.moves.specs.Moves.{Change, Move, Changed, Sourced, Switched, becomes, Fits, resourced, moved, Open, Chain, none, more}
-use Rattle.moves.proofs.Controllers.{chain-controls}
+use Rattle.moves.proofs.Sounds.{chain-sound}
 use Rattle.history.proofs.Made.{BitMakes, byteMove, BitMade, ByteMade, Rung, ClassMade}
 
 module _ {shape : Shape} {May : Move → Type 0} where
@@ -52,13 +52,13 @@ module _ {shape : Shape} {May : Move → Type 0} where
   if-chain true f = f refl
   if-chain false f = none
 
-  pub each-chain : (f : ℕ → List ℕ → List ℕ) (n : ℕ) → ((i : ℕ) → i < n → (r : List ℕ) → Controls shape r → Chain shape May r (f i r))
-      → (s : List ℕ) → Controls shape s → Chain shape May s (upTo f n s)
+  pub each-chain : (f : ℕ → List ℕ → List ℕ) (n : ℕ) → ((i : ℕ) → i < n → (r : List ℕ) → Sound shape r → Chain shape May r (f i r))
+      → (s : List ℕ) → Sound shape s → Chain shape May s (upTo f n s)
   unfolding upTo
   each-chain f zero steps s h = none
   each-chain f (suc n) steps s h =
       let before = each-chain f n (λ i b. steps i (omega (arith, b))) s h in
-      join before (steps n (omega arith) (upTo f n s) (chain-controls before h))
+      join before (steps n (omega arith) (upTo f n s) (chain-sound before h))
 
 no-sgi : (n : ℕ) → not (ltb n 16) ≡ true → 16 ≤ n
 no-sgi n = go (ltb n 16) refl
@@ -95,10 +95,10 @@ module _ (shape : Shape) (v n : ℕ) (there : RecordThere shape v n) (r : List �
     acted-chain Icfgr e may = changes (moves.SetTrigger _) (may _ refl) (no-sgi n e)
 
 -- a source set, by SPENDSGIR, CPENDSGIR or SGIR: its pending bit is what its sources then say
-module _ (shape : Shape) (v n : ℕ) (exists : v < shape .count) (sgi : n < 16) (r : List ℕ) (h : Controls shape r) where
+module _ (shape : Shape) (v n : ℕ) (exists : v < shape .count) (sgi : n < 16) (r : List ℕ) (h : Sound shape r) where
   sourced-is : (x : ℕ) → x < 256 → sourced shape v n x r ≡ resourced shape v n x r
   sourced-is x b =
-      ap (λ (y : ℕ). changed shape v n (λ q. setPending q (not (eqb y 0))) (withSources shape v n x r)) (sources-same shape r v n x (h .lawful .in-range .state) (exists, sgi) b)
+      ap (λ (y : ℕ). changed shape v n (λ q. setPending q (not (eqb y 0))) (withSources shape v n x r)) (sources-same shape r v n x (h .state) (exists, sgi) b)
 
   sources-chain : {May : Move → Type 0} (on : Bool) (byte : ℕ) → byte < 256 → May (Sourced v n on byte) → Chain shape May r (writeSources shape v n on byte r)
   unfolding writeSources
@@ -123,7 +123,7 @@ module _ (shape : Shape) (v n : ℕ) (exists : v < shape .count) (sgi : n < 16) 
       (one (Sourced v n true (2 ^ source)) may (record { exists = exists; sgi = sgi; fits = pow-lt b }))
 
 -- a byte of a byte register
-byte-chain : (shape : Shape) (register : ByteRegister) (v n byte : ℕ) → ByteThere shape register v n → byte < 2 ^ 8 → (r : List ℕ) → Controls shape r
+byte-chain : (shape : Shape) (register : ByteRegister) (v n byte : ℕ) → ByteThere shape register v n → byte < 2 ^ 8 → (r : List ℕ) → Sound shape r
     → {May : Move → Type 0} → May (byteMove shape register v n byte) → Chain shape May r (writeByte shape register v n byte r)
 unfolding writePriority writeTarget
 byte-chain shape Ipriorityr v n byte at b r h may =
@@ -138,7 +138,7 @@ byte-chain shape Cpendsgir v n byte at b r h may = sources-chain shape v n (at .
 byte-chain shape Spendsgir v n byte at b r h may = sources-chain shape v n (at .0) (at .1) r h true byte b may
 
 -- an accepted write to the Distributor
-module _ (shape : Shape) (v : ℕ) (width : AccessWidth) (value : ℕ) (s : List ℕ) (h : Controls shape s) where
+module _ (shape : Shape) (v : ℕ) (width : AccessWidth) (value : ℕ) (s : List ℕ) (h : Sound shape s) where
   bits-chain : (register : BitRegister) (first : ℕ) → WordAt shape register v first s → Chain shape (BitMade register v first value) s (writeBits shape register v first value s)
   unfolding writeBits writeNumber
   bits-chain register first at =
@@ -167,7 +167,7 @@ module _ (shape : Shape) (v : ℕ) (width : AccessWidth) (value : ℕ) (s : List
   rings-chain exists =
       each-chain (sentTo shape (sgiTarget value) v (value % 16)) (shape .count)
       (λ u b r c. if-chain (includes (sgiTarget value) v u)
-      (λ e. ring-chain shape u (value % 16) b (omega arith) r c v (omega (arith, exists, h .lawful .in-range .state .limits .few-vcpus)) (record { to = u; named = e; is = refl })))
+      (λ e. ring-chain shape u (value % 16) b (omega arith) r c v (omega (arith, exists, h .state .limits .few-vcpus)) (record { to = u; named = e; is = refl })))
       s h
 
   pub place-chain : (place : Place) → PlaceWritten shape v place width value s

@@ -1,8 +1,8 @@
--- Every call but setup, case by case: what it is refused by, what it answers where nothing changes, and the five ways in which it changes
--- something. What holds in each case holds of every call. Assumes nothing.
+-- Every call but setup, to any words that pass the test of refusal 6, case by case: what it is refused by, what it answers where nothing
+-- changes, and the five ways in which it changes something. What holds in each case holds of every call. Assumes nothing.
 use mathlib.Core.Path.{_≡_, refl, subst}
 use mathlib.Core.Bool.{Bool, true, false, cond, _&&_, true≢false}
-use mathlib.Core.List.{List}
+use mathlib.Core.List.{List, [], _∷_}
 use Prim.Native.Nat.{ℕ, _%_, _^_, _≤_, _<_}
 use native.Mathlib.Omega.{arith}
 use lib.Dec.{leb, ltb}
@@ -18,7 +18,8 @@ use Rattle.register.specs.declared.frame.Refusal.the-variants as refusal
 use Rattle.register.specs.Distributor.{locateDistributor}
 use Rattle.register.specs.CpuInterface.{locateCpuInterface, registerAt}
 use Rattle.state.specs.declared.layout.Shape.{Shape}
-use Rattle.state.specs.declared.lent.Lent.the-variants.{Sound}
+use Rattle.state.specs.declared.lent.Lent.{Lent}
+use Rattle.state.specs.declared.lent.Lent.the-variants.{Sound, Broken}
 use Rattle.state.specs.Lent.{validated}
 use Rattle.state.specs.Words.{RecordThere, changed, enabledAt}
 use Rattle.state.proofs.Tests.{left-true}
@@ -43,6 +44,7 @@ use Rattle.input.specs.declared.InputNumber.the-variants.{Device, Outside}
 use Rattle.input.specs.Input.{signalled, inputOf, inputAt, deviceInput}
 use Rattle.input.proofs.Passed.{input-there}
 use Rattle.lawful.specs.Lawful.{Controls}
+use Rattle.history.specs.Refusals.{refusals, listed}
 use Rattle.history.specs.History.{Ordinary, Call, Setup, ReadDistributor, WriteDistributor, ReadCpuInterface, WriteCpuInterface, SetLevel, Pulse, isSetup, called}
 use Rattle.register.specs.declared.frame.Refusal.{Refusal}
 use Rattle.register.specs.Frame.{refusalNumber, isDword, inFrame}
@@ -51,6 +53,25 @@ use Rattle.places.proofs.Fits.{refused-access}
 
 pub few : {x : ℕ} → x ≤ 5 → Ordinary x
 few b = record { not-6 = λ e. absurd (omega (arith, b, e)); not-7 = λ e. absurd (omega (arith, b, e)) }
+
+-- the call c may be refused by x where its words are a state and it acknowledges nothing
+pub record Refusable (c : Call) (x : ℕ) : Type 0 where
+  pub ordinary : Ordinary x
+  pub of-call : listed x (refusals c) ≡ true
+
+-- an access, by 1, 2 or 3
+access : {c : Call} {more : List ℕ} → refusals c ≡ 6 ∷ 1 ∷ 2 ∷ 3 ∷ more → (r : Refusal) → refusalNumber r ≤ 3 → Refusable c (refusalNumber r)
+access {c} {more} p r b = record { ordinary = few (omega (arith, b)); of-call = rw p (by-number r b) }
+  where
+    by-number : (r : Refusal) → refusalNumber r ≤ 3 → listed (refusalNumber r) (6 ∷ 1 ∷ 2 ∷ 3 ∷ more) ≡ true
+    by-number refusal.Access b = refl
+    by-number refusal.Width b = refl
+    by-number refusal.Vcpu b = refl
+    by-number refusal.Limits b = absurd (omega (arith, b))
+    by-number refusal.ShortState b = absurd (omega (arith, b))
+    by-number refusal.BrokenState b = absurd (omega (arith, b))
+    by-number refusal.FullStack b = absurd (omega (arith, b))
+    by-number refusal.Input b = absurd (omega (arith, b))
 
 -- what the CPU interface's map refuses it refuses by 1 or 2
 abbrev Passes : CpuInterfaceAccess → Type 0
@@ -91,8 +112,8 @@ setup-or-other P setup other (Pulse v n) = other (Pulse v n) refl
 pub valid : (shape : Shape) (s : List ℕ) → Controls shape s → validated s ≡ Sound shape
 valid shape s h = held-validated s shape (h .lawful .in-range)
 
-module _ (shape : Shape) (s : List ℕ) (h : Controls shape s) (P : Call → Outcome → Type 0)
-    (refuses : (c : Call) (r : Refusal) → Ordinary (refusalNumber r) → P c (refused r s))
+module _ (shape : Shape) (s : List ℕ) (h : validated s ≡ Sound shape) (P : Call → Outcome → Type 0)
+    (refuses : (c : Call) (r : Refusal) → Refusable c (refusalNumber r) → P c (refused r s))
     (reads : (c : Call) (x : ℕ) → P c (gave x s))
     (acknowledges : (v offset : ℕ) (width : AccessWidth) (register : CpuInterfaceRegister) → locateCpuInterface offset width ≡ interface.At register
     → interface-looks.acknowledging register ≡ true → (enabledAt shape s ≡ true → v < shape .count)
@@ -106,68 +127,93 @@ module _ (shape : Shape) (s : List ℕ) (h : Controls shape s) (P : Call → Out
     (levels : (v n : ℕ) (asserted : Bool) → RecordThere shape v n → 16 ≤ n → P (SetLevel v n asserted) (went shape 1023 s (changed shape v n (signalled (Level asserted)) s)))
     (pulses : (v n : ℕ) → RecordThere shape v n → 16 ≤ n → P (Pulse v n) (went shape 1023 s (changed shape v n (signalled Edge) s))) where
   sound : service.Sound shape s
-  sound = validated-sound shape s (valid shape s h)
+  sound = validated-sound shape s h
 
   -- what looks up its vCPU and does not find it is refused by 3
-  looked : (c : Call) (looksUp : Bool) (v : ℕ) (out : Outcome) → (absent looksUp shape v ≡ false → P c out) → P c (lookedUp looksUp shape v s out)
-  looked c looksUp v out f = go (absent looksUp shape v) refl
+  looked : (c : Call) → Refusable c 3 → (looksUp : Bool) (v : ℕ) (out : Outcome) → (absent looksUp shape v ≡ false → P c out) → P c (lookedUp looksUp shape v s out)
+  looked c may looksUp v out f = go (absent looksUp shape v) refl
     where
       go : (b : Bool) → absent looksUp shape v ≡ b → P c (lookedUp looksUp shape v s out)
-      go true e = simp e (refuses c refusal.Vcpu (few (omega arith)))
+      go true e = simp e (refuses c refusal.Vcpu may)
       go false e = simp e (f e)
 
-  private-width : (c : Call) (v : ℕ) → P c (distributor-frame.privateWidth shape v s)
-  private-width c v = looked c true v (refused refusal.Width s) (λ e. refuses c refusal.Width (few (omega arith)))
+  private-width : (c : Call) → ((r : Refusal) → refusalNumber r ≤ 3 → Refusable c (refusalNumber r)) → (v : ℕ) → P c (distributor-frame.privateWidth shape v s)
+  private-width c may v = looked c (may refusal.Vcpu (omega arith)) true v (refused refusal.Width s) (λ e. refuses c refusal.Width (may refusal.Width (omega arith)))
 
   interface-read : (v offset : ℕ) (width : AccessWidth) (a : CpuInterfaceAccess) → locateCpuInterface offset width ≡ a → Passes a → P (ReadCpuInterface v offset width) (interface-frame.readInterfaceAccess shape v a s)
-  interface-read v offset width (interface.Refused r) q p = refuses (ReadCpuInterface v offset width) r (few (omega (arith, p)))
+  interface-read v offset width (interface.Refused r) q p = refuses (ReadCpuInterface v offset width) r (access refl r (omega (arith, p)))
   interface-read v offset width (interface.At register) q p =
       each-read shape v s (λ k looksUp answer r. locateCpuInterface offset width ≡ interface.At k → P c (lookedUp looksUp shape v s (interface-frame.readAnswer answer s r)))
-      (λ k no looksUp x at. looked c looksUp v (gave x s) (λ e. reads c x))
-      (λ k is at. looked c (enabledAt shape s) v (interface-frame.readAnswer (acknowledge shape v s) s (acknowledged shape v s))
+      (λ k no looksUp x at. looked c vcpu looksUp v (gave x s) (λ e. reads c x))
+      (λ k is at. looked c vcpu (enabledAt shape s) v (interface-frame.readAnswer (acknowledge shape v s) s (acknowledged shape v s))
       (λ e. acknowledges v offset width k at is (present (enabledAt shape s) shape v e)))
       register q
     where
       c : Call
       c = ReadCpuInterface v offset width
 
+      vcpu : Refusable c 3
+      vcpu = access refl refusal.Vcpu (omega arith)
+
   interface-write : (v offset : ℕ) (width : AccessWidth) (value : ℕ) (a : CpuInterfaceAccess) → Passes a → P (WriteCpuInterface v offset width value) (interface-frame.writeInterfaceAccess shape v a (value % 2 ^ 32) s)
-  interface-write v offset width value (interface.Refused r) p = refuses (WriteCpuInterface v offset width value) r (few (omega (arith, p)))
+  interface-write v offset width value (interface.Refused r) p = refuses (WriteCpuInterface v offset width value) r (access refl r (omega (arith, p)))
   interface-write v offset width value (interface.At register) p =
       let x : ℕ = value % 2 ^ 32 in
       let looksUp : Bool = interface-looks.writeRegisterLooksUp register x in
-      looked (WriteCpuInterface v offset width value) looksUp v (went shape (interface-looks.writeRetired shape v register x s) s (interface-looks.writeRegister shape v register x s))
+      looked (WriteCpuInterface v offset width value) (access refl refusal.Vcpu (omega arith)) looksUp v (went shape (interface-looks.writeRetired shape v register x s) s (interface-looks.writeRegister shape v register x s))
       (λ e. writes v offset width value register (present looksUp shape v e))
 
   distributor-read : (v offset : ℕ) (width : AccessWidth) (a : DistributorAccess) → locateDistributor offset width ≡ a → P (ReadDistributor v offset width) (distributor-frame.readDistributorAccess shape v a width s)
-  distributor-read v offset width (distributor.Refused r) p = refuses (ReadDistributor v offset width) r (few (omega (arith, refused-access offset width r p)))
-  distributor-read v offset width distributor.PrivateWidth p = private-width (ReadDistributor v offset width) v
+  distributor-read v offset width (distributor.Refused r) p = refuses (ReadDistributor v offset width) r (access refl r (omega (arith, refused-access offset width r p)))
+  distributor-read v offset width distributor.PrivateWidth p = private-width (ReadDistributor v offset width) (access refl) v
   distributor-read v offset width (distributor.At place) p =
       let x : ℕ = places.readPlace shape v place width s in
-      looked (ReadDistributor v offset width) (places.readPlaceLooksUp (place .class) (place .private)) v (gave x s) (λ e. reads (ReadDistributor v offset width) x)
+      looked (ReadDistributor v offset width) (access refl refusal.Vcpu (omega arith)) (places.readPlaceLooksUp (place .class) (place .private)) v (gave x s) (λ e. reads (ReadDistributor v offset width) x)
 
   distributor-write : (v offset : ℕ) (width : AccessWidth) (value : ℕ) (a : DistributorAccess) → locateDistributor offset width ≡ a
       → P (WriteDistributor v offset width value) (distributor-frame.writeDistributorAccess shape v a width (value % 2 ^ 32) s)
-  distributor-write v offset width value (distributor.Refused r) p = refuses (WriteDistributor v offset width value) r (few (omega (arith, refused-access offset width r p)))
-  distributor-write v offset width value distributor.PrivateWidth p = private-width (WriteDistributor v offset width value) v
+  distributor-write v offset width value (distributor.Refused r) p = refuses (WriteDistributor v offset width value) r (access refl r (omega (arith, refused-access offset width r p)))
+  distributor-write v offset width value distributor.PrivateWidth p = private-width (WriteDistributor v offset width value) (access refl) v
   distributor-write v offset width value (distributor.At place) p =
       let x : ℕ = value % 2 ^ 32 in
-      looked (WriteDistributor v offset width value) (places.writePlaceLooksUp (place .class) (place .private) x) v (went shape 1023 s (places.writePlace shape v place width x s))
+      looked (WriteDistributor v offset width value) (access refl refusal.Vcpu (omega arith)) (places.writePlaceLooksUp (place .class) (place .private) x) v (went shape 1023 s (places.writePlace shape v place width x s))
       (λ e. places-write v offset width value place p (place-written v sound (record { offset = offset; at = p }) e))
 
-  input : (c : Call) (v n : ℕ) (signal : Signal) → (RecordThere shape v n → 16 ≤ n → P c (went shape 1023 s (changed shape v n (signalled signal) s)))
+  input : (c : Call) → refusals c ≡ 6 ∷ 8 ∷ 3 ∷ [] → (v n : ℕ) (signal : Signal) → (RecordThere shape v n → 16 ≤ n → P c (went shape 1023 s (changed shape v n (signalled signal) s)))
       → (a : InputNumber) → inputOf shape n ≡ a → IsInput n a → P c (inputAt shape v signal a s)
-  input c v n signal f Outside p is = refuses c refusal.Input (record { not-6 = λ e. absurd (omega (arith, e)); not-7 = λ e. absurd (omega (arith, e)) })
-  input c v n signal f (Device k) p is =
-      looked c (ltb (k .0) 32) v (went shape 1023 s (changed shape v (k .0) (signalled signal) s))
+  input c may v n signal f Outside p is =
+      refuses c refusal.Input (record { ordinary = record { not-6 = λ e. absurd (omega (arith, e)); not-7 = λ e. absurd (omega (arith, e)) }; of-call = rw may })
+  input c may v n signal f (Device k) p is =
+      looked c (record { ordinary = few (omega arith); of-call = rw may }) (ltb (k .0) 32) v (went shape 1023 s (changed shape v (k .0) (signalled signal) s))
       (λ e. rw (is .0) (f (subst (RecordThere shape v) (is .0) (input-there shape v n k p e)) (is .1)))
 
   pub each-call : (c : Call) → isSetup c ≡ false → P c (called c s)
   unfolding readV2Distributor writeV2Distributor readV2CpuInterface writeV2CpuInterface deviceInput
   each-call (Setup count limit) e = absurd (true≢false e)
-  each-call (ReadDistributor v offset width) e = rw (valid shape s h) (distributor-read v offset width (locateDistributor offset width) refl)
-  each-call (WriteDistributor v offset width value) e = rw (valid shape s h) (distributor-write v offset width value (locateDistributor offset width) refl)
-  each-call (ReadCpuInterface v offset width) e = rw (valid shape s h) (interface-read v offset width (locateCpuInterface offset width) refl (interface-access offset width))
-  each-call (WriteCpuInterface v offset width value) e = rw (valid shape s h) (interface-write v offset width value (locateCpuInterface offset width) (interface-access offset width))
-  each-call (SetLevel v n asserted) e = rw (valid shape s h) (input (SetLevel v n asserted) v n (Level asserted) (levels v n asserted) (inputOf shape n) refl (input-is shape n))
-  each-call (Pulse v n) e = rw (valid shape s h) (input (Pulse v n) v n Edge (pulses v n) (inputOf shape n) refl (input-is shape n))
+  each-call (ReadDistributor v offset width) e = rw h (distributor-read v offset width (locateDistributor offset width) refl)
+  each-call (WriteDistributor v offset width value) e = rw h (distributor-write v offset width value (locateDistributor offset width) refl)
+  each-call (ReadCpuInterface v offset width) e = rw h (interface-read v offset width (locateCpuInterface offset width) refl (interface-access offset width))
+  each-call (WriteCpuInterface v offset width value) e = rw h (interface-write v offset width value (locateCpuInterface offset width) (interface-access offset width))
+  each-call (SetLevel v n asserted) e = rw h (input (SetLevel v n asserted) refl v n (Level asserted) (levels v n asserted) (inputOf shape n) refl (input-is shape n))
+  each-call (Pulse v n) e = rw h (input (Pulse v n) refl v n Edge (pulses v n) (inputOf shape n) refl (input-is shape n))
+
+-- to any words at all: those that are no state are refused by 6
+module _ (s : List ℕ) (P : Call → Outcome → Type 0)
+    (breaks : (c : Call) → isSetup c ≡ false → P c (refused refusal.BrokenState s))
+    (holds : (shape : Shape) → validated s ≡ Sound shape → (c : Call) → isSetup c ≡ false → P c (called c s)) where
+  broken : validated s ≡ Broken → (c : Call) → isSetup c ≡ false → P c (called c s)
+  unfolding readV2Distributor writeV2Distributor readV2CpuInterface writeV2CpuInterface deviceInput
+  broken p (Setup count limit) e = absurd (true≢false e)
+  broken p (ReadDistributor v offset width) e = rw p (breaks (ReadDistributor v offset width) e)
+  broken p (WriteDistributor v offset width value) e = rw p (breaks (WriteDistributor v offset width value) e)
+  broken p (ReadCpuInterface v offset width) e = rw p (breaks (ReadCpuInterface v offset width) e)
+  broken p (WriteCpuInterface v offset width value) e = rw p (breaks (WriteCpuInterface v offset width value) e)
+  broken p (SetLevel v n asserted) e = rw p (breaks (SetLevel v n asserted) e)
+  broken p (Pulse v n) e = rw p (breaks (Pulse v n) e)
+
+  pub any-words : (c : Call) → isSetup c ≡ false → P c (called c s)
+  any-words c e = go (validated s) refl
+    where
+      go : (l : Lent) → validated s ≡ l → P c (called c s)
+      go Broken p = broken p c e
+      go (Sound shape) p = holds shape p c e

@@ -1,5 +1,5 @@
 -- Every move keeps a controller a controller: lawful, and written as we write it. So does every chain of moves. Assumes nothing.
-use mathlib.Core.Path.{_≡_, refl, sym, subst, _∙_}
+use mathlib.Core.Path.{_≡_, refl, _∙_}
 use mathlib.Core.Bool.{Bool, not}
 use mathlib.Core.List.{List}
 use mathlib.Core.Logic.{inl}
@@ -13,34 +13,24 @@ use Rattle.word.proofs.RecordWord.{decoded-in-range}
 use Rattle.state.specs.declared.layout.Shape.{Shape}
 use Rattle.state.specs.declared.layout.InterfaceValue.{InterfaceValue}
 use Rattle.state.specs.declared.layout.InterfaceValue.the-variants.{Control, PriorityMask, BinaryPoint, Depth}
-use Rattle.state.specs.Layout.{Slot, Count, Limit, DistributorControl, Interface, Sources, Private, Spi, Stack, Exists, Room}
+use Rattle.state.specs.Layout.{DistributorControl, Interface, Sources, Stack, Exists, Room}
 use Rattle.state.specs.Words.{wordAt, recordSlot, RecordThere, recordAt, sourcesAt, withSources, Canonical}
 use Rattle.state.proofs.Accessors.{put-room, record-exists, record-same}
 use Rattle.state.proofs.Canonical.{OffStack, record-canonical, sources-canonical, interface-canonical, enabled-canonical}
 use Rattle.state.proofs.SlotKinds.{kinds-apart, apart-record, record-apart}
 use Rattle.sgi.specs.Sgi.{mergedSources}
 use Rattle.sgi.proofs.Rings.{sgi-exists, merged-fits, both-sources, both-record, pended}
-use Rattle.service.specs.Service.{depthAt}
+use Rattle.service.specs.Service.{depthAt, Sound}
 use Rattle.service.proofs.Stacks.{popped-depth, popped-others}
 use Rattle.delivery.proofs.Canonicals.{given-canonical, popped-canonical}
 use Rattle.lawful.specs.Lawful.{Lawful, Controls}
-use Rattle.moves.specs.Moves.{Change, Move, Changed, Sourced, Kept, Switched, Given, Popped, becomes, moved, OffDepth, Changing, Sourcing, Keeping, Popping, Open, Chain, none, more}
+use Rattle.moves.specs.Moves.{Change, Move, Changed, Sourced, Kept, Switched, Given, Popped, becomes, moved, OffDepth, Changing, Sourcing, Keeping, Popping, Open, Chain}
 use Rattle.moves.proofs.Parts.{StackFine, SgiFine, record-fine}
 use Rattle.moves.proofs.Records.{change-fine, sgi-pending, pended-fine, change-in-range}
 use Rattle.moves.proofs.Slots.{no-number, served, givable}
+use Rattle.moves.proofs.Sounds.{lawful-sound, kept-apart, chain-holds}
 use Rattle.moves.proofs.Frames.{record-off-stack, stack, sources-stay, only-stacks, one-number}
 use Rattle.moves.proofs.Gives.{byte, given-lawful}
-
--- a value that is no depth
-notDepth : Slot → Type 0
-notDepth Count = Unit
-notDepth Limit = Unit
-notDepth DistributorControl = Unit
-notDepth (Interface v k) = OffDepth k
-notDepth (Sources v n) = Unit
-notDepth (Private v n) = Unit
-notDepth (Spi n) = Unit
-notDepth (Stack v i) = Unit
 
 off-stack : (v : ℕ) (k : InterfaceValue) → OffDepth k → OffStack (Interface v k)
 off-stack v Control off = tt
@@ -49,6 +39,9 @@ off-stack v BinaryPoint off = tt
 off-stack v Depth off = off
 
 module _ (shape : Shape) (s : List ℕ) (h : Lawful shape s) where
+  sound : Sound shape s
+  sound = lawful-sound h
+
   -- a record changed
   module _ (v n : ℕ) (c : Change) (o : Changing shape v n c s) where
     room : Room shape s
@@ -114,12 +107,11 @@ module _ (shape : Shape) (s : List ℕ) (h : Lawful shape s) where
 
   -- an interface value, the Distributor's enable bit
   kept-lawful : (v : ℕ) (k : InterfaceValue) (x : ℕ) → Keeping shape v k → Lawful shape (moved shape (Kept v k x) s)
-  unfolding notDepth
   kept-lawful v k x o =
       only-stacks shape s h (Kept v k x) o
       (λ u n. record-apart u n (Interface v k) (λ q. omega arith))
       (λ u n. kinds-apart (Sources u n) (Interface v k) (λ q. omega arith))
-      (λ u b. stack shape s h (Kept v k x) o u b (λ p. subst notDepth (sym p) (o .off-depth)) (λ i. kinds-apart (Stack u i) (Interface v k) (λ q. omega arith)))
+      (λ u b. stack shape s h (Kept v k x) o u b (kept-apart u v k (o .off-depth)) (λ i. kinds-apart (Stack u i) (Interface v k) (λ q. omega arith)))
 
   switched-lawful : (on : Bool) → Lawful shape (moved shape (Switched on) s)
   switched-lawful on =
@@ -131,12 +123,12 @@ module _ (shape : Shape) (s : List ℕ) (h : Lawful shape s) where
   -- the newest entry taken
   module _ (v : ℕ) (o : Popping shape v s) where
     popped-in : {i : ℕ} → i < depthAt shape v (moved shape (Popped v) s) → i < depthAt shape v s - 1
-    popped-in d = rw (popped-depth shape v s (served shape s h v (o .exists)) (o .some)) at d
+    popped-in d = rw (popped-depth shape v s (served shape s sound v (o .exists)) (o .some)) at d
 
     older : (i : ℕ) → i < depthAt shape v s - 1 → wordAt shape (Stack v i) (moved shape (Popped v) s) ≡ wordAt shape (Stack v i) s
     older i d =
-        let deep = served shape s h v (o .exists) .deep in
-        popped-others shape v s (served shape s h v (o .exists)) (o .some) (Stack v i) (o .exists, omega (arith, d, deep))
+        let deep = served shape s sound v (o .exists) .deep in
+        popped-others shape v s (served shape s sound v (o .exists)) (o .some) (Stack v i) (o .exists, omega (arith, d, deep))
         (kinds-apart (Stack v i) (Interface v Depth) (λ q. omega arith)) (λ p. let q : i ≡ depthAt shape v s - 1 = cc in omega (arith, q, d))
 
     popped-stack : StackFine shape v (moved shape (Popped v) s)
@@ -175,18 +167,17 @@ module _ (shape : Shape) (s : List ℕ) (h : Lawful shape s) where
       (pended shape v n s (h .in-range .state) slot (not (eqb x 0)) r (decoded-in-range (wordAt shape (recordSlot v n) after)))
   move-canonical c (Kept v k x) o = interface-canonical shape s (h .in-range .state) c v k x (o .exists) (off-stack v k (o .off-depth))
   move-canonical c (Switched on) o = enabled-canonical shape s (h .in-range .state) c on
-  move-canonical c (Given v e) o = given-canonical shape v s (served shape s h v (o .exists)) c e (givable shape s h v e o) (byte shape s h v e o)
-  move-canonical c (Popped v) o = popped-canonical shape v s (served shape s h v (o .exists)) c (o .some)
+  move-canonical c (Given v e) o = given-canonical shape v s (served shape s sound v (o .exists)) c e (givable shape s sound v e o) (byte shape s h v e o)
+  move-canonical c (Popped v) o = popped-canonical shape v s (served shape s sound v (o .exists)) c (o .some)
 
 pub move-controls : {shape : Shape} {s : List ℕ} → Controls shape s → (m : Move) → Open shape m s → Controls shape (moved shape m s)
 move-controls {shape} {s} h m o = record { lawful = move-lawful shape s (h .lawful) m o; canonical = move-canonical shape s (h .lawful) (h .canonical) m o }
 
 pub chain-controls : {shape : Shape} {May : Move → Type 0} {s r : List ℕ} → Chain shape May s r → Controls shape s → Controls shape r
-chain-controls none h = h
-chain-controls (more c m may o) h = move-controls (chain-controls c h) m o
+chain-controls {shape} = chain-holds (Controls shape) (λ m t may o h. move-controls h m o)
 
--- what every move of a chain keeps, the chain keeps
+-- what every move of a chain of controllers keeps, the chain keeps
 pub chain-keeps : {shape : Shape} {May : Move → Type 0} {s r : List ℕ} (P : List ℕ → Type 0)
     → ((m : Move) (t : List ℕ) → May m → Open shape m t → Controls shape t → P t → P (moved shape m t)) → Chain shape May s r → Controls shape s → P s → P r
-chain-keeps P step none h p = p
-chain-keeps P step (more {r = t} c m may o) h p = step m t may o (chain-controls c h) (chain-keeps P step c h p)
+chain-keeps {shape} P step c h p =
+    chain-holds (λ t. Controls shape t × P t) (λ m t may o both. (move-controls (both .0) m o, step m t may o (both .0) (both .1))) c (h, p) .1

@@ -19,6 +19,7 @@ use Rattle.moves.specs.Moves.{Move, moved, Open}
 use Rattle.moves.proofs.Parts.{StackFine, SgiFine, parts-lawful, stack-kept, records-kept, sgis-kept, all-records, all-sgis}
 use Rattle.moves.proofs.Records.{Fine}
 use Rattle.moves.proofs.Slots.{StackOf, Touches, move-room, move-others, touched-kind}
+use Rattle.moves.proofs.Sounds.{lawful-sound}
 
 -- a record is on no stack
 pub record-off-stack : (v u n : ℕ) → StackOf v (recordSlot u n) → ⊥
@@ -37,23 +38,23 @@ module _ (shape : Shape) (s : List ℕ) (h : Lawful shape s) where
     -- the stored count and limit stay, and so does any stack that is not touched
     pub stored : shape ≡ shaped (wordAt shape Count r) (wordAt shape Limit r)
     stored =
-        let count = move-others shape s h m o Count tt (λ p. absurd (omega (arith, touched-kind m Count p))) in
-        let limit = move-others shape s h m o Limit tt (λ p. absurd (omega (arith, touched-kind m Limit p))) in
+        let count = move-others shape s (lawful-sound h) m o Count tt (λ p. absurd (omega (arith, touched-kind m Count p))) in
+        let limit = move-others shape s (lawful-sound h) m o Limit tt (λ p. absurd (omega (arith, touched-kind m Limit p))) in
         h .in-range .stored ∙ (λ i. shaped (sym count i) (sym limit i))
 
     pub stack : (v : ℕ) → v < shape .count → (Touches m (Interface v Depth) → ⊥) → ((i : ℕ) → Touches m (Stack v i) → ⊥) → StackFine shape v r
-    stack v b depth entries = stack-kept shape v s r h b (move-others shape s h m o (Interface v Depth) b depth) (λ i c. move-others shape s h m o (Stack v i) (b, c) (entries i))
+    stack v b depth entries = stack-kept shape v s r h b (move-others shape s (lawful-sound h) m o (Interface v Depth) b depth) (λ i c. move-others shape s (lawful-sound h) m o (Stack v i) (b, c) (entries i))
 
     pub record-stays : (v n : ℕ) → RecordThere shape v n → (Touches m (recordSlot v n) → ⊥) → wordAt shape (recordSlot v n) r ≡ wordAt shape (recordSlot v n) s
-    record-stays v n there away = move-others shape s h m o (recordSlot v n) (record-exists shape v n there) away
+    record-stays v n there away = move-others shape s (lawful-sound h) m o (recordSlot v n) (record-exists shape v n there) away
 
     pub sources-stay : (v n : ℕ) → v < shape .count → n < 16 → (Touches m (Sources v n) → ⊥) → wordAt shape (Sources v n) r ≡ wordAt shape (Sources v n) s
-    sources-stay v n b sgi away = move-others shape s h m o (Sources v n) (b, sgi) away
+    sources-stay v n b sgi away = move-others shape s (lawful-sound h) m o (Sources v n) (b, sgi) away
 
     -- a move that touches no record and no source set
     pub only-stacks : ((v n : ℕ) → Touches m (recordSlot v n) → ⊥) → ((v n : ℕ) → Touches m (Sources v n) → ⊥) → ((v : ℕ) → v < shape .count → StackFine shape v r) → Lawful shape r
     only-stacks records sources stacks =
-        parts-lawful shape r (move-room shape s h m o) stored stacks (all-records shape s r h same) (all-sgis shape s r h same (λ v n b sgi. sources-stay v n b sgi (sources v n)))
+        parts-lawful shape r (move-room shape s (lawful-sound h) m o) stored stacks (all-records shape s r h same) (all-sgis shape s r h same (λ v n b sgi. sources-stay v n b sgi (sources v n)))
       where
         same : (v n : ℕ) → RecordThere shape v n → wordAt shape (recordSlot v n) r ≡ wordAt shape (recordSlot v n) s
         same v n there = record-stays v n there (records v n)
@@ -62,7 +63,7 @@ module _ (shape : Shape) (s : List ℕ) (h : Lawful shape s) where
     pub one-number : (v n : ℕ) → RecordThere shape v n → ((t : Slot) → (StackOf v t → ⊥) → Touches m t → Of v n t)
         → ((u : ℕ) → u < shape .count → StackFine shape u r) → Fine shape v n (recordAt shape v n r) → (n < 16 → SgiFine shape v n r) → Lawful shape r
     one-number v n there touched stacks fine own =
-        parts-lawful shape r (move-room shape s h m o) stored stacks
+        parts-lawful shape r (move-room shape s (lawful-sound h) m o) stored stacks
         (records-kept shape s r h v n there others fine)
         (sgis-kept shape s r h v n there others fine (λ u k b sgi away. sources-stay u k b sgi (λ p. away (touched (Sources u k) (λ q. q) p))) own)
       where

@@ -23,7 +23,7 @@ use Rattle.state.proofs.SlotKinds.{kindOf, kinds-apart, apart-record}
 use Rattle.select.proofs.Meaning.{best-is}
 use Rattle.service.specs.Service.{depthAt, runningOf, running}
 use Rattle.service.proofs.Stacks.{stack-empty, stack-newest}
-use Rattle.acknowledge.specs.Acknowledge.{givenRecord}
+use Rattle.acknowledge.specs.Acknowledge.{givenRecord, Givable}
 use Rattle.acknowledge.proofs.Offers.{offer-is}
 use Rattle.delivery.proofs.Given.{given-others, given-depth, given-stack, given-record, given-sgi}
 use Rattle.lawful.specs.Lawful.{priorityAt, Lawful}
@@ -31,7 +31,8 @@ use Rattle.lawful.proofs.Depths.{running-newest}
 use Rattle.moves.specs.Moves.{Given, moved, Giving}
 use Rattle.moves.proofs.Parts.{StackFine, SgiFine, record-fine}
 use Rattle.moves.proofs.Records.{Fine, given-fine, pended-fine}
-use Rattle.moves.proofs.Slots.{no-number, StackOf, Touches, served, givable}
+use Rattle.moves.proofs.Slots.{no-number, StackOf, Touches, givable}
+use Rattle.moves.proofs.Sounds.{lawful-sound}
 use Rattle.moves.proofs.Frames.{stack, one-number}
 
 topOf : Entry → List Entry → Entry
@@ -45,8 +46,11 @@ module _ (shape : Shape) (s : List ℕ) (h : Lawful shape s) (v : ℕ) (e : Entr
   abbrev after : List ℕ
   after = moved shape (Given v e) s
 
+  lent : Givable shape v e s
+  lent = givable shape s (lawful-sound h) v e o
+
   there-given : RecordThere shape v n
-  there-given = record { numbered = givable shape s h v e o .numbered; banked = λ b. o .exists }
+  there-given = record { numbered = lent .numbered; banked = λ b. o .exists }
 
   old : Fine shape v n (recordAt shape v n s)
   old = record-fine shape s h v n there-given
@@ -58,14 +62,13 @@ module _ (shape : Shape) (s : List ℕ) (h : Lawful shape s) (v : ℕ) (e : Entr
   newest : entryAt shape v (depthAt shape v s) after ≡ e
   unfolding topOf
   newest =
-      let g = givable shape s h v e o in
-      let deeper : depthAt shape v after ≡ suc (depthAt shape v s) = given-depth shape v e s g ∙ add-one (depthAt shape v s) in
+      let deeper : depthAt shape v after ≡ suc (depthAt shape v s) = given-depth shape v e s lent ∙ add-one (depthAt shape v s) in
       ap (topOf e)
       (sym (stack-newest shape v after (depthAt shape v s) deeper)
-      ∙ given-stack shape v e s g (omega (arith, g .numbered, h .in-range .state .limits .few-numbers)) byte)
+      ∙ given-stack shape v e s lent (omega (arith, lent .numbered, h .in-range .state .limits .few-numbers)) byte)
 
   given-in : {i : ℕ} → i < depthAt shape v after → i < suc (depthAt shape v s)
-  given-in d = rw (given-depth shape v e s (givable shape s h v e o) ∙ add-one (depthAt shape v s)) at d
+  given-in d = rw (given-depth shape v e s lent ∙ add-one (depthAt shape v s)) at d
 
   below-running : (i : ℕ) → i < depthAt shape v s → e .priority .0 < priorityAt shape v i s
   below-running i d = go (depthAt shape v s) refl
@@ -89,8 +92,7 @@ module _ (shape : Shape) (s : List ℕ) (h : Lawful shape s) (v : ℕ) (e : Entr
 
   entry-kept : (i : ℕ) → i < depthAt shape v s → wordAt shape (Stack v i) after ≡ wordAt shape (Stack v i) s
   entry-kept i d =
-      let deep = served shape s h v (o .exists) .deep in
-      given-others shape v e s (givable shape s h v e o) (Stack v i) (o .exists, omega (arith, d, deep))
+      given-others shape v e s lent (Stack v i) (o .exists, omega (arith, d, o .room))
       (apart-record (Stack v i) v n (λ q. omega arith)) (kinds-apart (Stack v i) (Sources v n) (λ q. omega arith))
       (kinds-apart (Stack v i) (Interface v Depth) (λ q. omega arith)) (λ p. let q : i ≡ depthAt shape v s = cc in omega (arith, q, d))
 
@@ -108,7 +110,7 @@ module _ (shape : Shape) (s : List ℕ) (h : Lawful shape s) (v : ℕ) (e : Entr
         last-or i (depthAt shape v s) (given-in d) (λ p. rw (p, priority-new) below-255) (λ old. rw (entry-kept i old) (h .orderly .below-idle v i (o .exists) old));
     numbered = λ i d.
         last-or i (depthAt shape v s) (given-in d)
-        (λ p. rw p (subst (λ (x : Entry). x .intid .0 < shape .limit) (sym newest) (givable shape s h v e o .numbered)))
+        (λ p. rw p (subst (λ (x : Entry). x .intid .0 < shape .limit) (sym newest) (lent .numbered)))
         (λ old. rw (entry-kept i old) (h .numbered v i (o .exists) old));
   }
 
@@ -121,13 +123,13 @@ module _ (shape : Shape) (s : List ℕ) (h : Lawful shape s) (v : ℕ) (e : Entr
   given-record-fine = go (ltb n 16) refl
     where
       go : (b : Bool) → ltb n 16 ≡ b → Fine shape v n (recordAt shape v n after)
-      go true p = rw (given-sgi shape v e s (givable shape s h v e o) (ltb-true n 16 p)) (taken-fine (eqb (sourcesAt shape v n after) 0))
-      go false p = rw (given-record shape v e s (givable shape s h v e o) (ltb-false n 16 p)) (given-fine old (o .exists))
+      go true p = rw (given-sgi shape v e s lent (ltb-true n 16 p)) (taken-fine (eqb (sourcesAt shape v n after) 0))
+      go false p = rw (given-record shape v e s lent (ltb-false n 16 p)) (given-fine old (o .exists))
 
   given-sgi-fine : n < 16 → SgiFine shape v n after
   unfolding givenRecord synchronizeInflight setState setOwner markInflight setPending
   given-sgi-fine sgi = record {
-    sourced = ap (λ (r : InterruptRecord). r .pending) (given-sgi shape v e s (givable shape s h v e o) sgi) ∙ go (eqb (sourcesAt shape v n after) 0);
+    sourced = ap (λ (r : InterruptRecord). r .pending) (given-sgi shape v e s lent sgi) ∙ go (eqb (sourcesAt shape v n after) 0);
   }
     where
       go : (b : Bool) → cond b (givenRecord v (recordAt shape v n s)) (setPending (givenRecord v (recordAt shape v n s)) true) .pending ≡ not b

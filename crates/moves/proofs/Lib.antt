@@ -1,4 +1,5 @@
--- What each move leaves alone, and that each keeps a controller a controller.
+-- What each move leaves alone, in any words that are a state; and that each keeps a controller a controller.
+pub mod Acknowledges
 pub mod Controllers
 pub mod Frames
 pub mod Gives
@@ -6,3 +7,4 @@ pub mod Parts
 pub mod Past
 pub mod Records
 pub mod Slots
+pub mod Sounds

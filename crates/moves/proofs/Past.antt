@@ -15,9 +15,8 @@ use Rattle.state.specs.Layout.{Slot, DistributorControl, Interface, Sources, St
 use Rattle.state.specs.Words.{put, kept, recordSlot, RecordThere, recordAt, changed, sourcesAt, withSources, withInterface, withoutEntry, entryWord}
 use Rattle.state.proofs.Accessors.{put-past, record-exists}
 use Rattle.sgi.specs.Sgi.{mergedSources}
-use Rattle.service.specs.Service.{depthAt, pushed, popped}
+use Rattle.service.specs.Service.{depthAt, pushed, popped, Sound}
 use Rattle.acknowledge.specs.Acknowledge.{sourceOf, pendIfLeft, withoutSource, sourceTaken, givenRecord, given}
-use Rattle.lawful.specs.Lawful.{Lawful}
 use Rattle.moves.specs.Moves.{Move, Changed, Sourced, Kept, Switched, Given, Popped, becomes, moved, Open}
 use Rattle.moves.proofs.Slots.{served, givable}
 
@@ -47,9 +46,9 @@ module _ (shape : Shape) (limits : Limits shape) where
           pend (puts s r (Sources v n) (mergedSources false (sourcesAt shape v n s) (2 ^ source)) (there .banked (omega (arith, sgi)), sgi) p) (eqb (sourcesAt shape v n after) 0)
       go false e = p
 
-module _ (shape : Shape) (s : List ℕ) (h : Lawful shape s) where
+module _ (shape : Shape) (s : List ℕ) (h : Sound shape s) where
   limits : Limits shape
-  limits = h .in-range .state .limits
+  limits = h .state .limits
 
   pub move-past : (m : Move) → Open shape m s → past shape (moved shape m s) ≡ past shape s
   unfolding given pushed popped

@@ -112,6 +112,7 @@ pub record Keeping (shape : Shape) (v : ℕ) (k : InterfaceValue) : Type 0 where
 pub record Giving (shape : Shape) (v : ℕ) (e : Entry) (s : List ℕ) : Type 0 where
   pub exists : v < shape .count
   pub offered : offer shape v s ≡ Best e
+  pub room : depthAt shape v s < 255
 
 pub record Popping (shape : Shape) (v : ℕ) (s : List ℕ) : Type 0 where
   pub exists : v < shape .count

@@ -17,7 +17,6 @@ use Rattle.register.specs.declared.distributor.DistributorAccess.the-variants.{
 use Rattle.register.specs.Distributor.{locateDistributor}
 use Rattle.word.specs.Fields.{fieldAt}
 use Rattle.state.specs.declared.layout.Shape.{Shape}
-use Rattle.state.specs.declared.layout.InterfaceValue.the-variants.{Control, PriorityMask, BinaryPoint, Depth}
 use Rattle.state.specs.Layout.{Slot, Count, Limit, DistributorControl, Interface, Sources, Private, Spi, Stack}
 use Rattle.state.specs.Words.{recordSlot}
 use Rattle.state.proofs.Steps.{Agree}
@@ -25,11 +24,12 @@ use Rattle.state.proofs.Tests.{left-true, right-true}
 use Rattle.sgi.specs.Sgi.{sgiTarget, includes}
 use Rattle.lawful.specs.Lawful.{Controls}
 use Rattle.moves.specs.Moves.{Move, Changed, Sourced, Kept, Switched, Given, Popped, Open}
-use Rattle.moves.proofs.Controllers.{chain-keeps}
-use Rattle.moves.proofs.Slots.{StackOf, Touches, move-others}
+use Rattle.moves.proofs.Slots.{StackOf, each-stack, Touches}
+use Rattle.moves.proofs.Sounds.{lawful-sound, chain-others}
 use Rattle.history.specs.History.{Call, Setup, ReadDistributor, WriteDistributor, ReadCpuInterface, WriteCpuInterface, SetLevel, Pulse, isSetup, called, run}
 use Rattle.history.proofs.Always.{every-other-call}
 use Rattle.history.proofs.Calls.{call-chain}
+use Rattle.history.proofs.Each.{valid}
 use Rattle.history.proofs.Made.{byteMove, ClassMade, PlaceMade, ReadMade, WriteMade, Made}
 use Rattle.stories.specs.Stories.{leavesAt, leaves, elsewhere, allElsewhere}
 
@@ -66,17 +66,7 @@ module _ (t n : ℕ) where
   of-sources v k x p c = subst (Concerns t n) p c
 
   of-stack : (v : ℕ) (x : Slot) → StackOf v x → Concerns t n x → v ≡ t
-  of-stack v Count p c = absurd p
-  of-stack v Limit p c = absurd p
-  of-stack v DistributorControl p c = absurd p
-  of-stack v (Interface u Control) p c = absurd p
-  of-stack v (Interface u PriorityMask) p c = absurd p
-  of-stack v (Interface u BinaryPoint) p c = absurd p
-  of-stack v (Interface u Depth) p c = sym p ∙ c
-  of-stack v (Sources u k) p c = absurd p
-  of-stack v (Private u k) p c = absurd p
-  of-stack v (Spi k) p c = absurd p
-  of-stack v (Stack u i) p c = sym p ∙ c
+  of-stack v = each-stack v (λ x. Concerns t n x → v ≡ t) (λ c. c) (λ i c. c)
 
   untouched : (m : Move) → Away t n m → (x : Slot) → Concerns t n x → Touches m x → ⊥
   untouched (Changed v k c) away x con p = let q = of-record v k x p con in away (q .0) (q .1)
@@ -160,12 +150,10 @@ module _ (t n : ℕ) where
     no-setup (Pulse v k) e = refl
 
     call-agrees : (shape : Shape) (c : Call) → elsewhere t n c ≡ true → (s : List ℕ) → Controls shape s → Agree shape (Concerns t n) (called c s .state) s
-    call-agrees shape c e s h =
-        chain-keeps (λ r. Agree shape (Concerns t n) r s)
-        (λ m r made o controls before. record {
-          agree = λ x exists con. move-others shape r (controls .lawful) m o x exists (untouched m (made-away shape c e m r made o) x con) ∙ before .agree x exists con;
-        })
-        (call-chain shape s h c (no-setup c e)) h (record { agree = λ x exists con. refl })
+    call-agrees shape c e s h = record {
+      agree = λ x exists con.
+          chain-others x exists (λ m r made o. untouched m (made-away shape c e m r made o) x con) (call-chain shape s (valid shape s h) c (no-setup c e)) (lawful-sound (h .lawful));
+    }
 
     -- over a history: a controller still, and all as it was
     pub elsewhere-controls : (shape : Shape) (cs : List Call) → allElsewhere t n cs ≡ true → (s : List ℕ) → Controls shape s → Controls shape (run cs s)

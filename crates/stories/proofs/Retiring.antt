@@ -22,8 +22,9 @@ use Rattle.cpu_interface.specs.CpuInterface.{writeRegister, writeRetired, write
 use Rattle.answer.specs.Answer.{Outcome, refused}
 use Rattle.lawful.specs.Lawful.{Controls}
 use Rattle.moves.proofs.Slots.{served}
+use Rattle.moves.proofs.Sounds.{lawful-sound}
 use Rattle.history.specs.History.{Call, Setup, ReadDistributor, WriteDistributor, ReadCpuInterface, WriteCpuInterface, SetLevel, Pulse, called}
-use Rattle.history.proofs.Each.{each-call}
+use Rattle.history.proofs.Each.{valid, each-call}
 
 pub record Idle (shape : Shape) (v n : ℕ) (s : List ℕ) : Type 0 where
   pub inactive : recordAt shape v n s .active ≡ false
@@ -72,11 +73,11 @@ module _ (shape : Shape) (s : List ℕ) (h : Controls shape s) (v n : ℕ) (numb
         off : isNewest k (stackAt shape v s) ≡ true → (b : Bool) → eoiMode shape v s ≡ b → Idle shape v n (ended shape v k s)
         off top true e = absurd (omega (arith, numbered, simp (top, e) at p))
         off top false e =
-            let is = served-here k (sym (ended-retired shape v k s (served shape s (h .lawful) v exists) top e) ∙ p) in
+            let is = served-here k (sym (ended-retired shape v k s (served shape s (lawful-sound (h .lawful)) v exists) top e) ∙ p) in
             let below = ltb-true n (shape .limit) (left-true (ltb n (shape .limit)) (servedHere v (recordAt shape v n s)) (is .1)) in
             let here = right-true (ltb n (shape .limit)) (servedHere v (recordAt shape v n s)) (is .1) in
             let after : recordAt shape v n (ended shape v n s) ≡ deactivate v (recordAt shape v n s) =
-            ended-record shape v n s (served shape s (h .lawful) v exists) (subst (λ (i : ℕ). isNewest i (stackAt shape v s) ≡ true) (is .0) top) e below in
+            ended-record shape v n s (served shape s (lawful-sound (h .lawful)) v exists) (subst (λ (i : ℕ). isNewest i (stackAt shape v s) ≡ true) (is .0) top) e below in
             rw (is .0) (record {
               inactive = ap (λ (q : InterruptRecord). q .active) after ∙ idle-active v (recordAt shape v n s) here;
               landed = ap (λ (q : InterruptRecord). q .inflight) after ∙ idle-landed v (recordAt shape v n s) here;
@@ -108,8 +109,8 @@ module _ (shape : Shape) (s : List ℕ) (h : Controls shape s) (v n : ℕ) (numb
   pub retiring-idle : (offset : ℕ) (width : AccessWidth) (value : ℕ) → called (WriteCpuInterface v offset width value) s .retired ≡ n
       → Idle shape v n (called (WriteCpuInterface v offset width value) s .state)
   retiring-idle offset width value =
-      each-call shape s h Retires
-      (λ c r ordinary. none c (refused r s) refl)
+      each-call shape s (valid shape s h) Retires
+      (λ c r may. none c (refused r s) refl)
       (λ c x. none c (Rattle.answer.specs.Answer.gave x s) refl)
       (λ u at w register found is looked. tt)
       (λ u at w x register looked p.

@@ -33,7 +33,9 @@ use Rattle.answer.specs.Answer.{gave}
 use Rattle.cpu_interface_frame.specs.CpuInterfaceFrame.{readAnswer}
 use Rattle.lawful.specs.Lawful.{Controls}
 use Rattle.lawful.proofs.Depths.{offer-room}
+use Rattle.moves.specs.Moves.{Giving}
 use Rattle.moves.proofs.Slots.{served}
+use Rattle.moves.proofs.Sounds.{lawful-sound}
 use Rattle.history.specs.History.{called, iarRead}
 use Rattle.waiting.specs.Waiting.{bit}
 use Rattle.stories.specs.Stories.{Takes, NoneAhead}
@@ -88,14 +90,14 @@ module _ (shape : Shape) (v n : ℕ) (s : List ℕ) (h : Controls shape s) (exis
     unfolding offer
     offered = simp (takes .on, is-best shape v s entry foremost, lt-ltb _ _ (takes .preempts))
 
+    pub given-move : Giving shape v entry s
+    given-move = record { exists = exists; offered = offered; room = offer-room shape v s (h .lawful .orderly) exists entry offered }
+
     pub given-call : called (iarRead v) s ≡ gave (n + 1024 * sourceOf shape v n s) (given shape v entry s)
     given-call =
-        let room = offer-room shape v s (h .lawful .orderly) exists entry offered in
-        let lent = served shape s (h .lawful) v exists in
+        let room = given-move .room in
+        let lent = served shape s (lawful-sound (h .lawful)) v exists in
         acknowledge-call shape s h v exists ∙ simp (acknowledge-is shape v s lent entry offered room, acknowledged-is shape v s lent entry offered room)
-
-    pub given-offered : offer shape v s ≡ Best entry
-    given-offered = offered
 
 -- an active interrupt is not handed out
 pub active-waits : (shape : Shape) (v n : ℕ) (s : List ℕ) → Controls shape s → v < shape .count → n < 1020 → recordAt shape v n s .active ≡ true

@@ -28,6 +28,7 @@ use Rattle.delivery.proofs.Given.{given-sources, given-stack}
 use Rattle.answer.specs.Answer.{Outcome, gave, went}
 use Rattle.lawful.specs.Lawful.{Controls}
 use Rattle.moves.proofs.Slots.{served, givable}
+use Rattle.moves.proofs.Sounds.{lawful-sound}
 use Rattle.history.specs.History.{Call, called, run, sgirWrite, iarRead, eoirWrite, dirWrite}
 use Rattle.history.proofs.Always.{every-other-call}
 use Rattle.waiting.specs.Waiting.{bit}
@@ -38,7 +39,7 @@ use Rattle.stories.proofs.Elsewhere.{elsewhere-controls, elsewhere-agre
 use Rattle.stories.proofs.Events.{rung-record, rung-sources, rung-stack, rung-steady, given-steady, given-left, given-active, retired-served, retired-idle, ended-steady, ended-sources, dropped-record, dropped-steady, deactivated-steady, deactivated-sources}
 use Rattle.stories.proofs.Sources.{pair, lower-first, higher-left, only-source, none-left}
 use Rattle.stories.proofs.Steady.{Steady, then-steady, eoi-same, takes-steady, agree-record, agree-sources, agree-stack, agree-steady}
-use Rattle.stories.proofs.Turns.{active-waits, is-number, given-call, given-offered, wake-bit}
+use Rattle.stories.proofs.Turns.{active-waits, is-number, given-call, given-move, wake-bit}
 
 module _ (h : TwoRings) (z : Sleeping h) where
   abbrev shape : Shape
@@ -82,7 +83,7 @@ module _ (h : TwoRings) (z : Sleeping h) where
   there c = record { numbered = numbered c; banked = λ low. exists }
 
   deep : {s : List ℕ} → Controls shape s → depthAt shape t s ≤ 255
-  deep {s} c = served shape s (c .lawful) t exists .deep
+  deep {s} c = served shape s (lawful-sound (c .lawful)) t exists .deep
 
   -- a ring adds its source
   ring-waits : (u value x : ℕ) (s : List ℕ) → u < shape .count → Rings u value t n → Waits x s → Waits (bitOr x (2 ^ u)) (called (sgirWrite u value) s .state)
@@ -149,8 +150,8 @@ module _ (h : TwoRings) (z : Sleeping h) where
     gives = given-call shape t n s (w .controls) exists (numbered (w .controls)) (takes-it x s w) (pending x s some w) none ∙ simp source-is
 
     given-lent : Givable shape t taken s
-    given-lent = givable shape s (w .controls .lawful) t taken
-        (record { exists = exists; offered = given-offered shape t n s (w .controls) exists (numbered (w .controls)) (takes-it x s w) (pending x s some w) none })
+    given-lent =
+        givable shape s (lawful-sound (w .controls .lawful)) t taken (given-move shape t n s (w .controls) exists (numbered (w .controls)) (takes-it x s w) (pending x s some w) none)
 
     left-is : sourcesAt shape t n (given shape t taken s) ≡ mergedSources false x (2 ^ lowestSource x)
     left-is = given-sources shape t taken s given-lent sgi ∙ ap (λ (k : ℕ). mergedSources false k (2 ^ lowestSource k)) (w .sources)
@@ -173,7 +174,7 @@ module _ (h : TwoRings) (z : Sleeping h) where
   -- EOIR: the stack is as at first
   module _ (e : Entry) (r : InterruptRecord) (x : ℕ) (s : List ℕ) (is : e .intid .0 ≡ n) (w : Serves (e ∷ stackAt shape t base) r x s) where
     lent : Served shape t s
-    lent = served shape s (w .controls .lawful) t exists
+    lent = served shape s (lawful-sound (w .controls .lawful)) t exists
 
     newest : isNewest n (stackAt shape t s) ≡ true
     newest = rw (w .stack) (eq-eqb (e .intid .0) n is)

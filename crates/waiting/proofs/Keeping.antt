@@ -1,6 +1,6 @@
 -- What holds of a state until a call takes it, whatever it is: if each move that spares it keeps it, and the moves of each call that does not
 -- take it spare it, then it holds after every history that never takes it. Assumes nothing.
-use mathlib.Core.Path.{_≡_, refl, sym, ap, subst, _∙_}
+use mathlib.Core.Path.{_≡_, sym, ap, _∙_}
 use mathlib.Core.Bool.{Bool, true, false, not, true≢false}
 use mathlib.Core.List.{List, [], _∷_}
 use Prim.Native.Nat.{ℕ, _+_, _*_, _-_, _%_, _^_, _≤_, _<_}
@@ -17,29 +17,25 @@ use Rattle.register.specs.Ranges.{classNumber, classOf}
 use Rattle.register.proofs.Map.{class-of-number}
 use Rattle.state.specs.declared.layout.Shape.{Shape}
 use Rattle.state.specs.declared.words.Entry.{Entry}
-use Rattle.state.specs.Words.{enabledAt, interfaceAt}
+use Rattle.state.specs.Words.{enabledAt}
 use Rattle.state.proofs.Tests.{left-true, right-true}
-use Rattle.state.specs.declared.layout.InterfaceValue.the-variants.{Control}
 use Rattle.state.specs.Fresh.{fresh}
 use Rattle.state.specs.Lent.{shaped}
-use Rattle.select.specs.declared.Selected.{Selected}
-use Rattle.select.specs.declared.Selected.the-variants.{Best, Nothing}
-use Rattle.acknowledge.specs.Acknowledge.{offer, sourceOf, given, answered, taken, acknowledge, acknowledged}
-use Rattle.acknowledge.proofs.Offers.{offer-is}
+use Rattle.acknowledge.specs.Acknowledge.{sourceOf, given, acknowledge, acknowledged}
 use Rattle.cpu_interface.specs.CpuInterface.{acknowledging}
-use Rattle.delivery.proofs.Answers.{acknowledge-is, acknowledged-is}
 use Rattle.answer.specs.Answer.{Outcome, gave}
 use Rattle.cpu_interface_frame.specs.CpuInterfaceFrame.{readAnswer}
 use Rattle.lawful.specs.Lawful.{Controls}
 use Rattle.lawful.proofs.Depths.{offer-room}
 use Rattle.moves.specs.Moves as moves
 use Rattle.moves.specs.Moves.{Move, Changed, Given, moved, Giving, Open, Chain}
+use Rattle.moves.proofs.Acknowledges.{each-acknowledge}
 use Rattle.moves.proofs.Controllers.{chain-keeps}
-use Rattle.moves.proofs.Slots.{served}
+use Rattle.moves.proofs.Sounds.{lawful-sound}
 use Rattle.history.specs.History.{Call, Setup, WriteDistributor, ReadCpuInterface, SetLevel, isSetup, called, run}
 use Rattle.history.proofs.Always.{setup-cases, every-other-call}
 use Rattle.history.proofs.Calls.{write-chain, distributor-chain}
-use Rattle.history.proofs.Each.{setup-or-other, each-call}
+use Rattle.history.proofs.Each.{setup-or-other, valid, each-call}
 use Rattle.history.proofs.Made.{PlaceMade, WriteMade}
 use Rattle.waiting.specs.Waiting.{isClass, gives, among, never}
 
@@ -65,19 +61,12 @@ handedOut shape v e s = e .intid .0 + 1024 * sourceOf shape v (e .intid .0) s
 abbrev pub handingOut : Shape → ℕ → Entry → List ℕ → Outcome
 handingOut shape v e s = gave (handedOut shape v e s) (given shape v e s)
 
--- an acknowledge gives something, or answers 1023 and changes nothing
+-- a controller's acknowledge gives something, or answers 1023 and changes nothing: there is always room
 pub acknowledge-cases : (shape : Shape) (s : List ℕ) → Controls shape s → (v : ℕ) → (enabledAt shape s ≡ true → v < shape .count) → (P : Outcome → Type 0)
     → P (gave 1023 s) → ((e : Entry) → Giving shape v e s → P (handingOut shape v e s)) → P (readAnswer (acknowledge shape v s) s (acknowledged shape v s))
-unfolding answered taken
-acknowledge-cases shape s h v looked P none give = go (offer shape v s) refl
-  where
-    go : (b : Selected) → offer shape v s ≡ b → P (readAnswer (acknowledge shape v s) s (acknowledged shape v s))
-    go Nothing p = simp p none
-    go (Best e) p =
-        let exists : v < shape .count = looked (left-true (enabledAt shape s) (eqb (interfaceAt shape v Control s % 2) 1) (offer-is shape v s e p .on)) in
-        let here = served shape s (h .lawful) v exists in
-        let room = offer-room shape v s (h .lawful .orderly) exists e p in
-        rw (acknowledge-is shape v s here e p room, acknowledged-is shape v s here e p room) (give e (record { exists = exists; offered = p }))
+acknowledge-cases shape s h v looked P none =
+    each-acknowledge shape s (lawful-sound (h .lawful)) v looked (λ a r. P (readAnswer a s r)) none
+    (λ e exists p full. absurd (omega (arith, full, offer-room shape v s (h .lawful .orderly) exists e p)))
 
 -- what takes something away whenever all starts anew
 abbrev pub Anew : (List ℕ → Call → Outcome → Bool) → Type 0
@@ -88,7 +77,7 @@ module _ (takes : List ℕ → Call → Outcome → Bool) (anew : Anew takes) wh
   -- a setup that does not take it is refused, and changes nothing
   refused-setup : (P : List ℕ → Type 0) (s : List ℕ) → P s → (count limit : ℕ) → takes s (Setup count limit) (called (Setup count limit) s) ≡ false → P (called (Setup count limit) s .state)
   refused-setup P s p count limit =
-      setup-cases count limit s (λ o. takes s (Setup count limit) o ≡ false → P (o .state)) (λ o ordinary no same e. subst P (sym same) p)
+      setup-cases count limit s (λ o. takes s (Setup count limit) o ≡ false → P (o .state)) (λ r may no e. p)
       (λ controls e. absurd (true≢false (sym (anew s count limit (gave 0 (fresh (shaped count limit) s))) ∙ e)))
 
   pub call-controls : {shape : Shape} (c : Call) (s : List ℕ) → Controls shape s → takes s c (called c s) ≡ false → Controls shape (called c s .state)
@@ -136,9 +125,9 @@ module _ {shape : Shape} {holds : List ℕ → Bool} {takes : List ℕ → Call 
 
     other-stays : (c : Call) → isSetup c ≡ false → Keeps c (called c s)
     other-stays =
-        each-call shape s h Keeps (λ c r x e. now) (λ c x e. now) acknowledges
-        (λ v offset width value register looked e. chained (w .ended v) (write-chain shape s h v (value % 2 ^ 32) register looked))
-        (λ v offset width value place p at e. chained (w .written s v offset width value e) (distributor-chain shape s h v width (value % 2 ^ 32) place (locateDistributor offset width) p at))
+        each-call shape s (valid shape s h) Keeps (λ c r x e. now) (λ c x e. now) acknowledges
+        (λ v offset width value register looked e. chained (w .ended v) (write-chain shape s (valid shape s h) v (value % 2 ^ 32) register looked))
+        (λ v offset width value place p at e. chained (w .written s v offset width value e) (distributor-chain shape s (valid shape s h) v width (value % 2 ^ 32) place (locateDistributor offset width) p at))
         (λ v n asserted there past e. w .kept (Changed v n (moves.SetLevel asserted)) s h (record { there = there; fits = past }) (w .levelled s v n asserted e) now)
         (λ v n there past e. w .kept (Changed v n moves.Pulse) s h (record { there = there; fits = past }) (w .pulsed s v n) now)
 

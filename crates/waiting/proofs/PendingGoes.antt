@@ -37,6 +37,7 @@ use Rattle.moves.specs.Moves as moves
 use Rattle.moves.specs.Moves.{Giving}
 use Rattle.moves.proofs.Controllers.{changed-record}
 use Rattle.moves.proofs.Slots.{givable}
+use Rattle.moves.proofs.Sounds.{lawful-sound}
 use Rattle.input.specs.declared.Signal.the-variants.{Level}
 use Rattle.history.specs.History.{Call, Setup, ReadDistributor, WriteDistributor, ReadCpuInterface, WriteCpuInterface, SetLevel, Pulse, isSetup, called}
 use Rattle.waiting.specs.Waiting.{pends, meets, gives, isClass, among, clearsPendingAt, takesPending}
@@ -102,7 +103,7 @@ module _ (shape : Shape) (n : ℕ) (past : 16 ≤ n) (s : List ℕ) (h : Control
       let waits : Bool = offered u m r && r .enabled && r .pending in
       let idle : r .active ≡ false = not-true (r .active) (right-true waits (not (r .active)) (left-true (waits && not (r .active)) (ltb (r .priority .0) (interfaceAt shape u PriorityMask s)) (best .chosen))) in
       subst (λ (k : ℕ). pends shape u k (given shape u e s) ≡ false) number
-      (ap (λ (x : InterruptRecord). x .pending) (given-record shape u e s (givable shape s (h .lawful) u e o) (rw number past))
+      (ap (λ (x : InterruptRecord). x .pending) (given-record shape u e s (givable shape s (lawful-sound (h .lawful)) u e o) (rw number past))
       ∙ handed u r ∙ unnoted r (h .lawful .orderly .records u m (record { numbered = best .below; banked = λ low. o .exists })) idle)
     where
       unnoted : (r : InterruptRecord) → OrderlyRecord shape r → r .active ≡ false → r .«redelivery_pending» ≡ false

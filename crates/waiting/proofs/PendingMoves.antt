@@ -25,6 +25,7 @@ use Rattle.moves.specs.Moves.{Change, SetEnabled, SetPending, SetActive, Cancel
 use Rattle.moves.proofs.Controllers.{changed-record}
 use Rattle.moves.proofs.Frames.{record-off-stack}
 use Rattle.moves.proofs.Slots.{Touches, move-others}
+use Rattle.moves.proofs.Sounds.{lawful-sound}
 use Rattle.waiting.specs.Waiting.{pends, meets}
 
 -- a change that leaves a pending bit set
@@ -104,7 +105,7 @@ Spares shape v n (Popped u) s = Unit
 
 module _ (shape : Shape) (v n : ℕ) (there : RecordThere shape v n) (no-sgi : 16 ≤ n) (s : List ℕ) (h : Controls shape s) (now : pends shape v n s ≡ true) where
   untouched : (m : Move) → Open shape m s → (Touches m (recordSlot v n) → ⊥) → pends shape v n (moved shape m s) ≡ true
-  untouched m o away = ap (λ (w : ℕ). recordOf w .pending) (move-others shape s (h .lawful) m o (recordSlot v n) (record-exists shape v n there) away) ∙ now
+  untouched m o away = ap (λ (w : ℕ). recordOf w .pending) (move-others shape s (lawful-sound (h .lawful)) m o (recordSlot v n) (record-exists shape v n there) away) ∙ now
 
   changed-kept : (u m : ℕ) (c : Change) → Changing shape u m c s → Spares shape v n (Changed u m c) s → pends shape v n (moved shape (Changed u m c) s) ≡ true
   changed-kept u m c o spares =

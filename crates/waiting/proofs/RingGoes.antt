@@ -33,6 +33,7 @@ use Rattle.places.proofs.Fits.{byte-run}
 use Rattle.lawful.specs.Lawful.{Controls}
 use Rattle.moves.specs.Moves.{Giving}
 use Rattle.moves.proofs.Slots.{givable}
+use Rattle.moves.proofs.Sounds.{lawful-sound}
 use Rattle.history.specs.History.{Call, Setup, ReadDistributor, WriteDistributor, ReadCpuInterface, WriteCpuInterface, SetLevel, Pulse, isSetup, called}
 use Rattle.waiting.specs.Waiting.{bit, rung, gives, isClass, among, clearsSourceAt, takesRing}
 use Rattle.waiting.proofs.Accepted.{write-call, hands-out}
@@ -73,14 +74,14 @@ module _ (shape : Shape) (t n u : ℕ) (exists : t < shape .count) (sgi : n < 16
     given-takes : (e : Entry) → Giving shape t e s → handedOut shape t e s ≡ n + 1024 * u → rung shape t n u (given shape t e s) ≡ false
     unfolding sourceOf
     given-takes e o answers =
-        let below = givable shape s (h .lawful) t e o .numbered in
+        let below = givable shape s (lawful-sound (h .lawful)) t e o .numbered in
         let few = h .lawful .in-range .state .limits .few-numbers in
         let number : e .intid .0 ≡ n = omega (arith, answers, below, few, sgi) in
         let small : e .intid .0 < 16 = omega (arith, number, sgi) in
         let source : sourceOf shape t (e .intid .0) s ≡ u = omega (arith, answers, number) in
         let lowest : lowestSource (sourcesAt shape t (e .intid .0) s) ≡ u = simp (lt-ltb (e .intid .0) 16 small) at source in
         subst (λ (m : ℕ). rung shape t m u (given shape t e s) ≡ false) number
-        (rw (given-sources shape t e s (givable shape s (h .lawful) t e o) small, lowest)
+        (rw (given-sources shape t e s (givable shape s (lawful-sound (h .lawful)) t e o) small, lowest)
         (bit-gone u (sourcesAt shape t (e .intid .0) s) (2 ^ u) low (pow-lt low) (bit-of-power u u low low ∙ eq-eqb u u refl)))
 
   pub ring-goes : (c : Call) (s : List ℕ) → Controls shape s → isSetup c ≡ false → takesRing t n u c (called c s) ≡ true → rung shape t n u (called c s .state) ≡ false

@@ -31,6 +31,7 @@ use Rattle.lawful.specs.Lawful.{Controls}
 use Rattle.moves.specs.Moves.{Move, Changed, Sourced, Kept, Switched, Given, Popped, moved, Open, Sourcing, Giving}
 use Rattle.moves.proofs.Controllers.{sourced-sources}
 use Rattle.moves.proofs.Slots.{Touches, givable, move-others}
+use Rattle.moves.proofs.Sounds.{lawful-sound}
 use Rattle.history.specs.History.{Call, ReadCpuInterface, called, run}
 use Rattle.history.proofs.Made.{ClassMade, PlaceMade, WriteMade}
 use Rattle.waiting.specs.Waiting.{bit, rung, gives, isClass, among, clearsSourceAt, takesRing, never}
@@ -50,7 +51,7 @@ module _ (shape : Shape) (t n u : ℕ) (exists : t < shape .count) (sgi : n < 16
 
   module _ (s : List ℕ) (h : Controls shape s) (now : rung shape t n u s ≡ true) where
     untouched : (m : Move) → Open shape m s → (Touches m (Sources t n) → ⊥) → rung shape t n u (moved shape m s) ≡ true
-    untouched m o away = rw (move-others shape s (h .lawful) m o (Sources t n) (exists, sgi) away) now
+    untouched m o away = rw (move-others shape s (lawful-sound (h .lawful)) m o (Sources t n) (exists, sgi) away) now
 
     -- another SGI, or another vCPU's
     apart : (v m : ℕ) → ((v ≡ t) × (m ≡ n) → ⊥) → Of v m (Sources t n) → ⊥
@@ -77,7 +78,7 @@ module _ (shape : Shape) (t n u : ℕ) (exists : t < shape .count) (sgi : n < 16
     given-kept : (v : ℕ) (e : Entry) → Giving shape v e s → Spares (Given v e) s → rung shape t n u (moved shape (Given v e) s) ≡ true
     given-kept v e o spares =
         own-or-other v (e .intid .0) (moved shape (Given v e) s)
-        (λ p q. rw (given-sources shape v e s (givable shape s (h .lawful) v e o) (rw q sgi)) (bit-left (sourcesAt shape v (e .intid .0) s) u (omega arith) (same v (e .intid .0) p q) (λ x. spares p q (rw (← p, ← q) x))))
+        (λ p q. rw (given-sources shape v e s (givable shape s (lawful-sound (h .lawful)) v e o) (rw q sgi)) (bit-left (sourcesAt shape v (e .intid .0) s) u (omega arith) (same v (e .intid .0) p q) (λ x. spares p q (rw (← p, ← q) x))))
         (λ away. untouched (Given v e) o (off away))
       where
         off : ((v ≡ t) × (e .intid .0 ≡ n) → ⊥) → Touches (Given v e) (Sources t n) → ⊥
