@@ -1,0 +1,156 @@
+-- Words behind a call's extent: the call hands out the same without them, and leaves them as they are. Assumes nothing.
+use mathlib.Core.Path.{_≡_, refl, sym, ap, _∙_}
+use mathlib.Core.Bool.{Bool, true, false, cond, _&&_, true≢false}
+use mathlib.Core.List.{List, _++_}
+use Prim.Native.Nat.{ℕ, zero, suc, _≤_, _<_}
+use native.Mathlib.Omega.{arith}
+use lib.Dec.{leb}
+use lib.ListN.{length, getD, length-append, length-set, List·getD-append}
+use lib.Seq.{set-append-left}
+use borrow.Author.Tests.{le-leb}
+use Rattle.register.specs.declared.frame.Refusal.the-variants.{BrokenState, ShortState}
+use Rattle.state.specs.declared.layout.Shape.{Shape}
+use Rattle.state.specs.declared.layout.InterfaceValue.the-variants.{Depth}
+use Rattle.state.specs.declared.lent.Limited.{Limited}
+use Rattle.state.specs.declared.lent.Limited.the-variants.{Within, Outside}
+use Rattle.state.specs.declared.lent.Lent.{Lent}
+use Rattle.state.specs.declared.lent.Lent.the-variants.{Sound, Broken}
+use Rattle.state.specs.Fresh.{startOf, startedAt, fresh}
+use Rattle.state.specs.Layout.{Interface, size, slotAt, Room}
+use Rattle.state.specs.Lent.{limited, storedShape, depthFits, lentAs, validated}
+use Rattle.state.specs.Loop.{upTo, everyBelow}
+use Rattle.state.proofs.Starting.{fresh-length}
+use Rattle.state.proofs.Validated.{limited-limits}
+use Rattle.answer.specs.Answer.{refused, gave}
+use Rattle.controller.specs.Start.{setupOf, setup}
+use Rattle.distributor_frame.specs.DistributorFrame.{readV2Distributor, writeV2Distributor}
+use Rattle.cpu_interface_frame.specs.CpuInterfaceFrame.{readV2CpuInterface, writeV2CpuInterface}
+use Rattle.input.specs.Input.{deviceInput}
+use Rattle.history.specs.History.{Call, Setup, ReadDistributor, WriteDistributor, ReadCpuInterface, WriteCpuInterface, SetLevel, Pulse, isSetup, called}
+use Rattle.history.proofs.Each.{setup-or-other}
+use Rattle.reach.specs.Reach.{sizeOr, storedExtent, extent}
+use Rattle.reach.proofs.Outcomes.{wrapped, Carries}
+use Rattle.reach.proofs.Calls.{call-carries}
+use Rattle.reach.proofs.Beside.{behind}
+
+-- a call on words that are no state
+pub broken-call : (c : Call) (s : List ℕ) → isSetup c ≡ false → validated s ≡ Broken → called c s ≡ refused BrokenState s
+unfolding readV2Distributor writeV2Distributor readV2CpuInterface writeV2CpuInterface deviceInput
+broken-call (Setup count limit) s e p = absurd (true≢false e)
+broken-call (ReadDistributor v offset width) s e p = simp p
+broken-call (WriteDistributor v offset width value) s e p = simp p
+broken-call (ReadCpuInterface v offset width) s e p = simp p
+broken-call (WriteCpuInterface v offset width value) s e p = simp p
+broken-call (SetLevel v n asserted) s e p = simp p
+broken-call (Pulse v n) s e p = simp p
+
+-- every other call has one extent
+pub other-extent : (c : Call) (s : List ℕ) → isSetup c ≡ false → extent c s ≡ storedExtent s
+other-extent (Setup count limit) s e = absurd (true≢false e)
+other-extent (ReadDistributor v offset width) s e = refl
+other-extent (WriteDistributor v offset width value) s e = refl
+other-extent (ReadCpuInterface v offset width) s e = refl
+other-extent (WriteCpuInterface v offset width value) s e = refl
+other-extent (SetLevel v n asserted) s e = refl
+other-extent (Pulse v n) s e = refl
+
+two-words : (l : Limited) → 2 ≤ sizeOr 2 l
+two-words Outside = omega arith
+two-words (Within shape) = omega arith
+
+every-same : (f g : ℕ → Bool) (n : ℕ) → ((i : ℕ) → i < n → f i ≡ g i) → everyBelow f n ≡ everyBelow g n
+unfolding everyBelow
+every-same f g zero same = refl
+every-same f g (suc n) same = λ i. every-same f g n (λ k h. same k (omega arith)) i && same n (omega arith) i
+
+module _ (a x : List ℕ) where
+  longer : {n : ℕ} → n ≤ length a → n ≤ length (a ++ x)
+  longer h = omega (arith, h, length-append a x)
+
+  -- the test of refusal 6
+  stored-same : 2 ≤ length a → storedShape (a ++ x) ≡ storedShape a
+  stored-same h = λ i. limited (List·getD-append a x 0 0 (omega (arith, h)) i) (List·getD-append a x 0 1 (omega (arith, h)) i)
+
+  tested-same : (l : Limited) → storedShape a ≡ l → sizeOr 2 l ≤ length a → lentAs (a ++ x) l ≡ lentAs a l
+  tested-same Outside p h = refl
+  tested-same (Within shape) p h = λ i. cond (roomy i && every-same (depthFits shape (a ++ x)) (depthFits shape a) (shape .count) fits i) (Sound shape) Broken
+    where
+      room : Room shape a
+      room = record { limits = limited-limits (getD a 0 0) (getD a 1 0) shape p; room = h }
+
+      roomy : leb (size shape) (length (a ++ x)) ≡ leb (size shape) (length a)
+      roomy = le-leb (size shape) (length (a ++ x)) (longer h) ∙ sym (le-leb (size shape) (length a) h)
+
+      fits : (v : ℕ) → v < shape .count → depthFits shape (a ++ x) v ≡ depthFits shape a v
+      fits v exists = ap (λ (w : ℕ). leb w 255) (behind shape x .alike a room .agree (Interface v Depth) exists (omega arith))
+
+  -- a setup's fill
+  module _ (shape : Shape) (h : size shape ≤ length a) where
+    started-long : (n : ℕ) → length (upTo (startedAt shape) n a) ≡ length a
+    unfolding upTo
+    started-long zero = refl
+    started-long (suc n) = length-set (upTo (startedAt shape) n a) n (startOf shape (slotAt shape n)) ∙ started-long n
+
+    started-same : (n : ℕ) → n ≤ length a → upTo (startedAt shape) n (a ++ x) ≡ upTo (startedAt shape) n a ++ x
+    unfolding upTo
+    started-same zero k = refl
+    started-same (suc n) k =
+        ap (startedAt shape n) (started-same n (omega arith))
+        ∙ set-append-left (upTo (startedAt shape) n a) x n (startOf shape (slotAt shape n)) (rw (started-long n) k)
+
+    fresh-same : fresh shape (a ++ x) ≡ fresh shape a ++ x
+    unfolding fresh
+    fresh-same = started-same (size shape) h
+
+  setup-carries : (l : Limited) → sizeOr 0 l ≤ length a → Carries (λ s. s ++ x) (setupOf l) a
+  setup-carries Outside h = record { same = refl; long = refl }
+  setup-carries (Within shape) h = record {
+    same = simp (le-leb (size shape) (length (a ++ x)) (longer h), le-leb (size shape) (length a) h, fresh-same shape h);
+    long = simp (le-leb (size shape) (length a) h, fresh-length shape a);
+  }
+
+  module _ (c : Call) (other : isSetup c ≡ false) (h : storedExtent a ≤ length a) where
+    valid-same : validated (a ++ x) ≡ validated a
+    unfolding validated
+    valid-same = ap (lentAs (a ++ x)) (stored-same (omega (arith, two-words (storedShape a), h))) ∙ tested-same (storedShape a) refl h
+
+    other-carries : Carries (λ s. s ++ x) (called c) a
+    other-carries = go (validated a) refl
+      where
+        go : (l : Lent) → validated a ≡ l → Carries (λ s. s ++ x) (called c) a
+        go (Sound shape) p = call-carries (behind shape x) a p (valid-same ∙ p) c other
+        go Broken p =
+            let refuses : called c a ≡ refused BrokenState a = broken-call c a other p in
+            record { same = broken-call c (a ++ x) other (valid-same ∙ p) ∙ ap (wrapped (λ s. s ++ x)) (sym refuses); long = ap (λ o. length (o .state)) refuses }
+
+  pub within-extent : (c : Call) → extent c a ≤ length a → Carries (λ s. s ++ x) (called c) a
+  unfolding setup
+  within-extent =
+      setup-or-other (λ d. extent d a ≤ length a → Carries (λ s. s ++ x) (called d) a) (λ count limit. setup-carries (limited count limit))
+      (λ d other h. other-carries d other (rw (other-extent d a other) at h))
+
+  -- and the extent is the same
+  pub same-extent : (c : Call) → extent c (a ++ x) ≤ length a → extent c (a ++ x) ≡ extent c a
+  same-extent =
+      setup-or-other (λ d. extent d (a ++ x) ≤ length a → extent d (a ++ x) ≡ extent d a) (λ count limit h. refl)
+      (λ d other h.
+      let both = other-extent d (a ++ x) other in
+      both ∙ ap (sizeOr 2) (stored-same (omega (arith, two-words (storedShape (a ++ x)), h, both))) ∙ sym (other-extent d a other))
+
+-- a call leaves as many words as there were
+pub call-long : (c : Call) (s : List ℕ) → length (called c s .state) ≡ length s
+unfolding setup
+call-long c s = setup-or-other (λ d. length (called d s .state) ≡ length s) (λ count limit. setup-long (limited count limit)) (λ d other. other-long d other (validated s) refl) c
+  where
+    setup-long : (l : Limited) → length (setupOf l s .state) ≡ length s
+    setup-long Outside = refl
+    setup-long (Within shape) = go (leb (size shape) (length s))
+      where
+        go : (b : Bool) → length (cond b (gave 0 (fresh shape s)) (refused ShortState s) .state) ≡ length s
+        go true = fresh-length shape s
+        go false = refl
+
+    other-long : (d : Call) → isSetup d ≡ false → (l : Lent) → validated s ≡ l → length (called d s .state) ≡ length s
+    other-long d other (Sound shape) p =
+        call-carries {shape = shape} {wrap = λ r. r} (record { alike = λ r h. record { agree = λ t e inner. refl }; puts = λ r h t e inner w. refl }) s p p d other .long
+    other-long d other Broken p = ap (λ o. length (o .state)) (broken-call d s other p)

@@ -1,0 +1,101 @@
+-- Document 01: "Bytes past it never change"; nor are they ever read. Of one call on any words; of calls without a setup on any words; of an accepted
+-- setup and what follows; of any history at all. Assumes nothing.
+use mathlib.Core.Path.{_≡_, refl, sym, ap, _∙_}
+use mathlib.Core.Bool.{true, false, not}
+use mathlib.Core.List.{List, [], _∷_}
+use Prim.Native.Nat.{ℕ, _≤_}
+use native.Mathlib.Omega.{arith}
+use lib.ListN.{length, getD, take, drop}
+use borrow.Author.Tests.{not-true}
+use Rattle.state.specs.declared.layout.Shape.{Shape}
+use Rattle.state.specs.declared.lent.Limited.{Limited}
+use Rattle.state.specs.declared.lent.Limited.the-variants.{Within, Outside}
+use Rattle.state.specs.declared.lent.Lent.{Lent}
+use Rattle.state.specs.declared.lent.Lent.the-variants.{Sound, Broken}
+use Rattle.state.specs.Layout.{size}
+use Rattle.state.specs.Lent.{shaped, limited, storedShape, validated, Held}
+use Rattle.state.proofs.Places.{size-bound}
+use Rattle.state.proofs.Tests.{left-true, right-true}
+use Rattle.state.proofs.Validated.{limited-shape, limited-limits, limits-limited}
+use Rattle.history.specs.History.{Call, Setup, isSetup, called, run, handed, answers, noSetup, Accepted}
+use Rattle.history.proofs.Always.{a-fresh-controller}
+use Rattle.history.proofs.Each.{setup-or-other}
+use Rattle.reach.specs.Reach.{sizeOr, storedExtent, extent, ReachAtMost, SameFront}
+use Rattle.reach.proofs.Beside.{head-stays}
+use Rattle.reach.proofs.Extents.{broken-call, other-extent, call-long}
+use Rattle.reach.proofs.Never.{calls-never-write, calls-never-read}
+
+-- a call
+module _ (c : Call) (s : List ℕ) where
+  once : ReachAtMost (extent c s) (c ∷ []) s
+  once = (omega arith, tt)
+
+  pub never-written : (drop (extent c s) (called c s .state) ≡ drop (extent c s) s) × (length (called c s .state) ≡ length s)
+  unfolding run
+  never-written = (calls-never-write (extent c s) (c ∷ []) s once, call-long c s)
+
+  pub never-read : (r : List ℕ) → take (extent c s) s ≡ take (extent c s) r
+      → (handed (called c s) ≡ handed (called c r)) × (take (extent c s) (called c s .state) ≡ take (extent c s) (called c r .state))
+  unfolding run answers
+  never-read r same = let front = calls-never-read (extent c s) (c ∷ []) s r once same in let first = front .answers-same in (cc, front .words-same)
+
+-- calls without a setup: the stored count and limit stay, and so does what they reach
+pub stored-stays : (c : Call) (s : List ℕ) → isSetup c ≡ false → storedShape (called c s .state) ≡ storedShape s
+stored-stays c s other = go (validated s) refl
+  where
+    go : (l : Lent) → validated s ≡ l → storedShape (called c s .state) ≡ storedShape s
+    go (Sound shape) p = let head = head-stays c s other p in λ i. limited (head .0 i) (head .1 i)
+    go Broken p = ap (λ o. storedShape (o .state)) (broken-call c s other p)
+
+no-setup-reach : (n : ℕ) (cs : List Call) → noSetup cs ≡ true → (s : List ℕ) → storedExtent s ≤ n → ReachAtMost n cs s
+no-setup-reach n [] e s h = tt
+no-setup-reach n (c ∷ cs) e s h =
+    let other : isSetup c ≡ false = not-true (isSetup c) (left-true (not (isSetup c)) (noSetup cs) e) in
+    (rw (other-extent c s other) h, no-setup-reach n cs (right-true (not (isSetup c)) (noSetup cs) e) (called c s .state) (rw (stored-stays c s other) h))
+
+module _ (cs : List Call) (others : noSetup cs ≡ true) (s : List ℕ) where
+  pub past-never-written : drop (storedExtent s) (run cs s) ≡ drop (storedExtent s) s
+  past-never-written = calls-never-write (storedExtent s) cs s (no-setup-reach (storedExtent s) cs others s (omega arith))
+
+  pub past-never-read : (r : List ℕ) → take (storedExtent s) s ≡ take (storedExtent s) r → SameFront (storedExtent s) cs s r
+  past-never-read r = calls-never-read (storedExtent s) cs s r (no-setup-reach (storedExtent s) cs others s (omega arith))
+
+-- a setup that is accepted, and such calls after it
+held-stored : (shape : Shape) (s : List ℕ) → Held shape s → storedShape s ≡ Within shape
+held-stored shape s h =
+    let c : getD s 0 0 ≡ shape .count = ap (λ (t : Shape). t .count) (sym (h .stored)) in
+    let l : getD s 1 0 ≡ shape .limit = ap (λ (t : Shape). t .limit) (sym (h .stored)) in
+    (λ i. limited (c i) (l i)) ∙ limits-limited shape (h .state .limits)
+
+own-size : (count limit : ℕ) (l : Limited) → limited count limit ≡ l → sizeOr 0 l ≤ size (shaped count limit)
+own-size count limit Outside p = omega arith
+own-size count limit (Within shape) p = rw (limited-shape count limit shape p) (omega arith)
+
+module _ (count limit : ℕ) (words : List ℕ) (accepted : Accepted count limit words) (cs : List Call) (others : noSetup cs ≡ true) where
+  abbrev pub whole : ℕ
+  whole = size (shaped count limit)
+
+  setup-reach : ReachAtMost whole (Setup count limit ∷ cs) words
+  setup-reach =
+      let after = held-stored (shaped count limit) (called (Setup count limit) words .state) (a-fresh-controller count limit words accepted .lawful .in-range) in
+      (own-size count limit (limited count limit) refl, no-setup-reach whole cs others (called (Setup count limit) words .state) (rw after (omega arith)))
+
+  pub words-past-stay : drop whole (run (Setup count limit ∷ cs) words) ≡ drop whole words
+  words-past-stay = calls-never-write whole (Setup count limit ∷ cs) words setup-reach
+
+  pub words-past-unread : (r : List ℕ) → take whole words ≡ take whole r → SameFront whole (Setup count limit ∷ cs) words r
+  words-past-unread r = calls-never-read whole (Setup count limit ∷ cs) words r setup-reach
+
+-- no call reaches past the largest state
+largest : (other : ℕ) → other ≤ 3447 → (count limit : ℕ) (l : Limited) → limited count limit ≡ l → sizeOr other l ≤ 3447
+largest other h count limit Outside p = h
+largest other h count limit (Within shape) p = size-bound shape (limited-limits count limit shape p)
+
+pub extent-bound : (c : Call) (s : List ℕ) → extent c s ≤ 3447
+extent-bound c s =
+    setup-or-other (λ d. extent d s ≤ 3447) (λ count limit. largest 0 (omega arith) count limit (limited count limit) refl)
+    (λ d other. rw (other-extent d s other) (largest 2 (omega arith) (getD s 0 0) (getD s 1 0) (storedShape s) refl)) c
+
+pub reach-bound : (cs : List Call) (s : List ℕ) → ReachAtMost 3447 cs s
+reach-bound [] s = tt
+reach-bound (c ∷ cs) s = (extent-bound c s, reach-bound cs (called c s .state))

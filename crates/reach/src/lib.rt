@@ -1,0 +1,1 @@
+// No code: how far a call reaches into the lent words, whatever they hold.
