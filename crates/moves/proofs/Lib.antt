@@ -4,7 +4,6 @@ pub mod Controllers
 pub mod Frames
 pub mod Gives
 pub mod Parts
-pub mod Past
 pub mod Records
 pub mod Slots
 pub mod Sounds
