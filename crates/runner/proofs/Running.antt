@@ -13,7 +13,8 @@ use borrow.Author.Tests.{lt-ltb, le-ltb, eq-eqb, ne-eqb, ltb-true, ltb-false}
 use Rattle.script.specs.Text.{Put}
 use Rattle.runner.specs.declared.blocks.Progress.{Progress}
 use Rattle.script.proofs.Puts.{put-then}
-use Rattle.runner.specs.Runner.{Run, lineAnswer, Prints, keptLine, textThen, ran, Went, Ran, Fed}
+use Rattle.runner.specs.Runner.{lineAnswer, Prints}
+use Rattle.runner.specs.Feeding.{Run, keptLine, textThen, ran, restPrinted, Went, Ran, Fed}
 
 pub ran-append : (a b line s : List ℕ) → ran (a ++ b) line s ≡ textThen (ran a line s .text) (ran b (ran a line s .line) (ran a line s .state))
 unfolding ran
@@ -95,6 +96,16 @@ module _ (n : ℕ) (line words : List ℕ) (at : ℕ) (out : List ℕ) where
       let some = length-take-le n line (omega arith) in
       let none-more : take n line ≡ keptLine (take n line) b = simp (some, le-ltb n 81 h) in
       ran-as _ (run-byte b (take n line) words e) few none-more refl (put-none at out k)
+
+  -- where the input ends, a line that has begun is answered, and where none has nothing is put
+  pub rest-answered : {words' out' : List ℕ} {end : ℕ} → 0 < n → n ≤ length line → Prints (lineAnswer (take n line) words) at words' out out' end
+      → Prints (restPrinted (take n line) words) at words' out out' end
+  unfolding restPrinted
+  rest-answered h k p = let some = length-take-le n line k in simp (some, lt-ltb 0 n h) p
+
+  pub no-rest : n ≡ 0 → at ≤ length out → Prints (restPrinted (take n line) words) at words out out at
+  unfolding restPrinted
+  no-rest e k = rw e (record { state = refl; put = put-none at out k })
 
 -- one byte more
 pub slice-more : (input : List ℕ) (from i : ℕ) → from ≤ i → i < length input → slice from (i + 1) input ≡ slice from i input ++ getD input i 0 ∷ []

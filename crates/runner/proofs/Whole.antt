@@ -1,15 +1,19 @@
 -- A byte at a time, with 81 bytes kept of a line, the runner prints what its lines ask for. Assumes nothing.
-use mathlib.Core.Path.{_≡_, refl, sym, ap, _∙_}
+use mathlib.Core.Path.{_≡_, refl, ap, _∙_}
 use mathlib.Core.Bool.{Bool, true, false, cond}
 use mathlib.Core.List.{List, [], _∷_, _++_, append-assoc, append-nil}
-use Prim.Native.Nat.{ℕ, _+_, _≤_, _<_}
+use Prim.Native.Nat.{ℕ, _≤_, _<_}
+use native.Mathlib.Nat.{zero-add}
 use native.Mathlib.Omega.{arith}
 use lib.Dec.{eqb, ltb}
-use lib.ListN.{length, take, length-append}
-use lib.Seq.{length-take-le, take-all, take-append-le}
+use lib.ListN.{length, take, drop, length-append}
+use lib.Seq.{slice, sets-eq, length-take-le, take-all, take-append-le, take-append-seam}
 use borrow.Author.Tests.{lt-ltb, lt-leb, ltb-true, ltb-false}
 use Rattle.script.specs.Line.{requestOf}
-use Rattle.runner.specs.Runner.{Run, requestPrinted, lineAnswer, linesAfter, linesPrinted, printed, keptLine, textThen, ran, restPrinted}
+use Rattle.script.specs.Text.{Put}
+use Rattle.runner.specs.Runner.{Printed, requestPrinted, lineAnswer, textFirst, linesPrinted, linesAfter, printed, Prints}
+use Rattle.runner.specs.Feeding.{Run, keptLine, textThen, ran, restPrinted, Turns, unfed, fedOn}
+use Rattle.runner.proofs.Running.{ran-append}
 
 -- one way or the other
 short-or {ℓ} : {X : Type ℓ} (line : List ℕ) → (length line < 81 → X) → (81 ≤ length line → X) → X
@@ -42,25 +46,20 @@ begun-kept line =
     short-or line (λ h. rw (take-all 81 line (omega arith)))
     (λ h. let few = length-take-le 81 line h in simp (few, lt-ltb 0 (length line) (omega arith)))
 
-ended-after : (text : List ℕ) (r : Run) → restPrinted (textThen text r) ≡ text ++ restPrinted r
-unfolding restPrinted
-ended-after text r = go (ltb 0 (length (r .line)))
-  where
-    go : (b : Bool) → cond b (text ++ r .text ++ lineAnswer (r .line) (r .state) .text) (text ++ r .text)
-        ≡ text ++ cond b (r .text ++ lineAnswer (r .line) (r .state) .text) (r .text)
-    go true = append-assoc text (r .text) (lineAnswer (r .line) (r .state) .text)
-    go false = refl
-
 -- a rest is a line, if there is one
-rest : (line s : List ℕ) → restPrinted (record { text = []; line = take 81 line; state = s }) ≡ linesPrinted (cond (ltb 0 (length line)) (line ∷ []) []) s
-unfolding restPrinted linesPrinted
+rest : (line s : List ℕ) → restPrinted (take 81 line) s ≡ linesPrinted (linesAfter line []) s
+unfolding restPrinted linesAfter linesPrinted
 rest line s = rw (begun-kept line, answer-kept line s) (go (ltb 0 (length line)))
   where
-    go : (b : Bool) → cond b (lineAnswer line s .text) [] ≡ linesPrinted (cond b (line ∷ []) []) s
-    go true = sym (append-nil (lineAnswer line s .text))
+    go : (b : Bool) → cond b (lineAnswer line s) (record { text = []; state = s }) ≡ linesPrinted (cond b (line ∷ []) []) s
+    go true = rw append-nil
     go false = refl
 
-line-by-line : (input line s : List ℕ) → restPrinted (ran input (take 81 line) s) ≡ linesPrinted (linesAfter line input) s
+-- what a run prints, with its rest
+abbrev ended : Run → Printed
+ended r = textFirst (r .text) (restPrinted (r .line) (r .state))
+
+line-by-line : (input line s : List ℕ) → ended (ran input (take 81 line) s) ≡ linesPrinted (linesAfter line input) s
 unfolding ran linesAfter linesPrinted
 line-by-line [] line s = rest line s
 line-by-line (b ∷ bs) line s =
@@ -72,11 +71,24 @@ line-by-line (b ∷ bs) line s =
     left : List ℕ
     left = lineAnswer line s .state
 
-    go : (x : Bool) → restPrinted (ran bs [] left) ≡ linesPrinted (linesAfter [] bs) left
-        → restPrinted (ran bs (take 81 (line ++ b ∷ [])) s) ≡ linesPrinted (linesAfter (line ++ b ∷ []) bs) s
-        → restPrinted (cond x (textThen text (ran bs [] left)) (ran bs (take 81 (line ++ b ∷ [])) s)) ≡ linesPrinted (cond x (line ∷ linesAfter [] bs) (linesAfter (line ++ b ∷ []) bs)) s
-    go true next more = ended-after text (ran bs [] left) ∙ ap (λ (t : List ℕ). text ++ t) next
+    go : (x : Bool) → ended (ran bs [] left) ≡ linesPrinted (linesAfter [] bs) left
+        → ended (ran bs (take 81 (line ++ b ∷ [])) s) ≡ linesPrinted (linesAfter (line ++ b ∷ []) bs) s
+        → ended (cond x (textThen text (ran bs [] left)) (ran bs (take 81 (line ++ b ∷ [])) s)) ≡ linesPrinted (cond x (line ∷ linesAfter [] bs) (linesAfter (line ++ b ∷ []) bs)) s
+    go true next more = rw append-assoc (ap (textFirst text) next)
     go false next more = more
 
-pub whole-input : (input s : List ℕ) → restPrinted (ran input [] s) ≡ printed input s
-whole-input input s = line-by-line input [] s
+put-text : {x s s' : List ℕ} {end : ℕ} → Put x 0 s s' end → take end s' ≡ x
+put-text {x} {s} p = rw (p .past, p .bytes, sets-eq x s 0 (p .fits)) (simp zero-add (take-append-seam x (drop (length x) s)))
+
+turns-ran : {words bytes text : List ℕ} {n : ℕ} {line words' : List ℕ} → Turns words bytes text n line words'
+    → ran bytes [] words ≡ record { text = text; line = take n line; state = words' }
+unfolding ran
+turns-ran unfed = refl
+turns-ran {words} (fedOn {bytes} {input} {from} {r} before fed) =
+    ran-append bytes (slice from (r .consumed) input) [] words
+    ∙ rw (turns-ran before, put-text (fed .run .put), fed .run .went .partial, fed .run .went .state) refl
+
+-- all that `feed` puts, one call after another, and after it what `feed_rest` puts: it is what the program has to print for all the bytes
+pub whole-input : {words input text : List ℕ} {n : ℕ} {line words' words'' out out' : List ℕ} {end : ℕ} → Turns words input text n line words'
+    → Prints (restPrinted (take n line) words') 0 words'' out out' end → record { text = text ++ take end out'; state = words'' } ≡ printed input words
+whole-input {words} {input} turns p = rw (put-text (p .put), p .state) (rw (turns-ran turns) at (line-by-line input [] words))

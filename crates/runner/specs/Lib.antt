@@ -1,1 +1,2 @@
 pub mod Runner
+pub mod Feeding

@@ -1,8 +1,9 @@
 // Input, a block at a time.
 ghost use mathlib.Core.List.{[], _∷_};
 ghost use Prim.Native.Nat.{_≤_};
-ghost use lib.ListN.{length};
-ghost use Rattle.runner.specs.Runner.{Begun, Ready, Ran, Fed};
+ghost use lib.ListN.{length, take};
+ghost use Rattle.runner.specs.Runner.{Prints};
+ghost use Rattle.runner.specs.Feeding.{restPrinted, Begun, Ready, Ran, Fed};
 use crate::lines::answer_line;
 
 // The bytes of a line that are kept: one more than any form has.
@@ -80,4 +81,15 @@ pub fn feed(
         produced: at,
         length: kept,
     }
+}
+
+// The last line may lack its newline: where the input ends, a line that has begun is answered.
+pub fn feed_rest(words: &mut [u32], line: &[u8], begun: usize, out: &mut [u8]) -> usize
+    requires { ⌜ Ready begun (now line) 0 (now out) ⌝ }
+    ensures { λ r. ⌜ Prints (restPrinted (take begun (now (line .entry))) (now (words .entry))) 0 (now (words .exit)) (now (out .entry)) (now (out .exit)) r ⌝ }
+{
+    if 0 < begun {
+        return answer_line(words, &line[..begun], out, 0);
+    }
+    0
 }

@@ -6,4 +6,5 @@ pub mod lines;
 pub use blocks::KEPT;
 pub use blocks::Progress;
 pub use blocks::feed;
+pub use blocks::feed_rest;
 pub use lines::answer_line;

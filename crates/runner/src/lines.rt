@@ -2,7 +2,8 @@
 ghost use Prim.Native.Nat.{_+_, _≤_};
 ghost use lib.ListN.{length};
 ghost use Rattle.script.specs.Text.{Put};
-ghost use Rattle.runner.specs.Runner.{requestPrinted, lineAnswer, textOf, Prints};
+ghost use Rattle.runner.specs.Runner.{requestPrinted, lineAnswer, Prints};
+ghost use Rattle.runner.specs.Feeding.{textOf};
 use controller::Answer;
 use controller::pulse;
 use controller::read_v2_cpu_interface;

@@ -1,1 +1,2 @@
 pub mod ScriptHistory
+pub mod Before

@@ -4,12 +4,13 @@ ghost use mathlib.Core.Bool.{true};
 ghost use mathlib.Core.Path.{_≡_};
 ghost use Prim.Native.Nat.{_≤_};
 ghost use lib.ListN.{length};
-ghost use Rattle.runner.specs.Runner.{Begun, Went};
+ghost use Rattle.runner.specs.Runner.{startWords};
+ghost use Rattle.runner.specs.Feeding.{Begun, Went, RestAnswered};
 use libc::STDIN_FILENO;
 use libc::STDOUT_FILENO;
 use runner::KEPT;
-use runner::answer_line;
 use runner::feed;
+use runner::feed_rest;
 
 // Whether to go on, and how many bytes of a line are kept.
 struct Turn {
@@ -67,19 +68,18 @@ fn read_block(
     answer_block(words, line, begun, &block[..n], out)
 }
 
-// The last line may lack its newline.
+// Answers what is left where the input ends.
 fn answer_rest(words: &mut [u32], line: &[u8], begun: usize, out: &mut [u8])
     requires { ⌜ (Begun begun (now line)) × (30 ≤ length (now out)) ⌝ }
+    ensures { λ r. ⌜ RestAnswered begun (now (line .entry)) (now (words .entry)) (now (words .exit)) (now (out .entry)) (now (out .exit)) ⌝ }
 {
-    if 0 < begun {
-        let end = answer_line(words, &line[..begun], out, 0);
-        io::write_all(STDOUT_FILENO, &out[..end]);
-    }
+    let end = feed_rest(words, line, begun, out);
+    io::write_all(STDOUT_FILENO, &out[..end]);
 }
 
 // A proved loop has to end, and nothing says that the input does: so it counts its turns down, from a number that no run uses up.
 fn run(words: &mut [u32], line: &mut [u8], block: &mut [u8], out: &mut [u8])
-    requires { ⌜ (Begun 0 (now line)) × (30 ≤ length (now out)) ⌝ }
+    requires { ⌜ (Begun 0 (now line)) × (30 ≤ length (now out)) × (now words ≡ startWords (length (now words))) ⌝ }
 {
     let mut begun = 0;
     let mut turns = u64::MAX;
@@ -95,7 +95,7 @@ fn run(words: &mut [u32], line: &mut [u8], block: &mut [u8], out: &mut [u8])
     answer_rest(words, line, begun, out);
 }
 
-// The words are those of the largest controller: 8 vCPUs, limit 1020. Zeros are no controller.
+// As many words as the largest controller takes: 8 vCPUs, limit 1020.
 fn main() {
     let mut words = [0u32; 3447];
     let mut line = [0u8; KEPT];

@@ -7,7 +7,7 @@ use lib.ListN.{length, take}
 use lib.Seq.{length-take-le, take-all}
 use borrow.Author.Needs.{needs}
 use Rattle.script.proofs.Puts.{put-length, put-inside}
-use Rattle.runner.specs.Runner.{Went}
+use Rattle.runner.specs.Feeding.{Went}
 use Rattle.runner.proofs.Running.{went-none, went-then, slice-join, moves}
 use Rattle.vgicrun.proofs.answer_block.Statement.{statement}
 use Rattle.vgicrun.proofs.answer_block.Tie as tie

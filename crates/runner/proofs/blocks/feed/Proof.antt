@@ -7,7 +7,7 @@ use lib.ListN.{length}
 use lib.Seq.{slice, slice-empty}
 use borrow.Author.Needs.{needs}
 use Rattle.script.proofs.Puts.{put-inside}
-use Rattle.runner.specs.Runner.{Ran}
+use Rattle.runner.specs.Feeding.{Ran}
 use Rattle.runner.proofs.Running.{ran-none, ran-then, slice-more}
 use Rattle.runner.proofs.blocks.feed.Statement.{statement}
 use Rattle.runner.proofs.blocks.feed.Tie as tie

@@ -1,0 +1,109 @@
+-- "Before an accepted `n`, calls answer 6; a refused `n` keeps the earlier state." Assumes nothing.
+use mathlib.Core.Path.{_≡_, refl, sym, _∙_}
+use mathlib.Core.Bool.{Bool, true, false, true≢false, false≢true}
+use mathlib.Core.List.{List, [], _∷_, _++_, append-assoc, append-nil}
+use mathlib.Core.Option.{Option, none, some}
+use Prim.Native.Nat.{ℕ, zero, suc}
+use lib.Dec.{leb}
+use lib.ListN.{length}
+use borrow.Author.Tests.{eqb-true}
+use Rattle.state.specs.declared.lent.Lent.the-variants.{Broken}
+use Rattle.state.specs.Layout.{size}
+use Rattle.state.specs.Lent.{inLimits, shaped, limited, validated}
+use Rattle.controller.specs.Start.{setup}
+use Rattle.distributor_frame.specs.DistributorFrame.{readV2Distributor, writeV2Distributor}
+use Rattle.cpu_interface_frame.specs.CpuInterfaceFrame.{readV2CpuInterface, writeV2CpuInterface}
+use Rattle.input.specs.Input.{deviceInput}
+use Rattle.script.specs.Line.{requestOf}
+use Rattle.runner.specs.Runner.{lineAnswer, textFirst, linesPrinted, startWords}
+use Rattle.history.specs.History.{Call, Setup, ReadDistributor, WriteDistributor, ReadCpuInterface, WriteCpuInterface, SetLevel, Pulse, run}
+use Rattle.history.proofs.Always.{demand-three}
+use Rattle.history.proofs.Each.{setup-or-other}
+use Rattle.script_history.specs.ScriptHistory.{callOf, withCall, callsOf, byCall}
+use Rattle.script_history.specs.Before.{isAccepted, noneAccepted, textBefore, textsBefore}
+use Rattle.script_history.proofs.Scripts.{a-line-is-a-call, a-script-is-a-history, OrderlyWords}
+
+-- a refused `n`, whatever the words: it prints 4 or 5, and they stay
+pub a-refused-setup : (count limit : ℕ) (s : List ℕ) → isAccepted (some (Setup count limit)) s ≡ false
+    → byCall (some (Setup count limit)) s ≡ record { text = textBefore (some (Setup count limit)); state = s }
+unfolding setup limited
+a-refused-setup count limit s refuses = go (inLimits count limit) (leb (size (shaped count limit)) (length s)) refl refl
+  where
+    go : (a b : Bool) → inLimits count limit ≡ a → leb (size (shaped count limit)) (length s) ≡ b
+        → byCall (some (Setup count limit)) s ≡ record { text = textBefore (some (Setup count limit)); state = s }
+    go true true within fits = absurd (true≢false (simp (within, fits) at refuses))
+    go true false within short = simp (within, short)
+    go false b outside room = simp outside
+
+-- in words that are no state, a line that is no accepted `n`
+call-before : (o : Option Call) (s : List ℕ) → validated s ≡ Broken → isAccepted o s ≡ false → byCall o s ≡ record { text = textBefore o; state = s }
+unfolding readV2Distributor writeV2Distributor readV2CpuInterface writeV2CpuInterface deviceInput
+call-before none s e h = refl
+call-before (some (Setup count limit)) s e h = a-refused-setup count limit s h
+call-before (some (ReadDistributor v offset width)) s e h = rw e
+call-before (some (WriteDistributor v offset width value)) s e h = rw e
+call-before (some (ReadCpuInterface v offset width)) s e h = rw e
+call-before (some (WriteCpuInterface v offset width value)) s e h = rw e
+call-before (some (SetLevel v n asserted)) s e h = rw e
+call-before (some (Pulse v n)) s e h = rw e
+
+line-before : (line s : List ℕ) → validated s ≡ Broken → isAccepted (callOf (requestOf line)) s ≡ false
+    → lineAnswer line s ≡ record { text = textBefore (callOf (requestOf line)); state = s }
+line-before line s e h = a-line-is-a-call line s ∙ call-before (callOf (requestOf line)) s e h
+
+-- so the lines after it find the words as they were
+none-before : (line : List ℕ) (lines : List (List ℕ)) (s : List ℕ) → validated s ≡ Broken → isAccepted (callOf (requestOf line)) s ≡ false
+    → noneAccepted (line ∷ lines) s ≡ noneAccepted lines s
+unfolding noneAccepted
+none-before line lines s e h = simp (h, line-before line s e h)
+
+lines-before : (lines rest : List (List ℕ)) (s : List ℕ) → validated s ≡ Broken → noneAccepted lines s ≡ true
+    → linesPrinted (lines ++ rest) s ≡ textFirst (textsBefore lines) (linesPrinted rest s)
+unfolding noneAccepted textsBefore linesPrinted
+lines-before [] rest s e h = refl
+lines-before (line ∷ lines) rest s e h = go (isAccepted (callOf (requestOf line)) s) refl (lines-before lines rest s e)
+  where
+    go : (b : Bool) → isAccepted (callOf (requestOf line)) s ≡ b
+        → (noneAccepted lines s ≡ true → linesPrinted (lines ++ rest) s ≡ textFirst (textsBefore lines) (linesPrinted rest s))
+        → linesPrinted (line ∷ lines ++ rest) s ≡ textFirst (textsBefore (line ∷ lines)) (linesPrinted rest s)
+    go true p others = absurd (false≢true (simp p at h))
+    go false p others = rw (line-before line s e p, others (sym (none-before line lines s e p) ∙ h)) (simp append-assoc)
+
+-- and once an `n` is accepted, demand 3 holds after whatever lines follow
+accepted-orderly : (o : Option Call) (s : List ℕ) (calls : List Call) → isAccepted o s ≡ true → OrderlyWords (run (withCall o calls) s)
+accepted-orderly none s calls h = absurd (false≢true h)
+accepted-orderly (some c) s calls h =
+    setup-or-other (λ d. isAccepted (some d) s ≡ true → OrderlyWords (run (d ∷ calls) s))
+    (λ count limit a. demand-three count limit s (eqb-true (setup count limit s .refusal) 0 a) calls)
+    (λ d other a. absurd (false≢true (simp other at a))) c h
+
+lines-after : (lines : List (List ℕ)) (s : List ℕ) → validated s ≡ Broken → noneAccepted lines s ≡ false → OrderlyWords (linesPrinted lines s .state)
+unfolding noneAccepted linesPrinted callsOf
+lines-after [] s e h = absurd (true≢false h)
+lines-after (line ∷ lines) s e h = go (isAccepted (callOf (requestOf line)) s) refl (lines-after lines s e)
+  where
+    go : (b : Bool) → isAccepted (callOf (requestOf line)) s ≡ b → (noneAccepted lines s ≡ false → OrderlyWords (linesPrinted lines s .state))
+        → OrderlyWords (linesPrinted (line ∷ lines) s .state)
+    go true p others = rw (a-script-is-a-history (line ∷ lines) s) (accepted-orderly (callOf (requestOf line)) s (callsOf lines) p)
+    go false p others = rw (line-before line s e p) (others (sym (none-before line lines s e p) ∙ h))
+
+-- what the program starts from is no state
+start-broken : (n : ℕ) → validated (startWords n) ≡ Broken
+unfolding validated limited
+start-broken zero = refl
+start-broken (suc n) = refl
+
+-- whatever lines follow, an accepted `n` or not
+pub before-an-accepted-setup : (n : ℕ) (lines rest : List (List ℕ)) → noneAccepted lines (startWords n) ≡ true
+    → linesPrinted (lines ++ rest) (startWords n) ≡ textFirst (textsBefore lines) (linesPrinted rest (startWords n))
+before-an-accepted-setup n lines rest h = lines-before lines rest (startWords n) (start-broken n) h
+
+-- so as long as no `n` is accepted
+pub none-accepted : (n : ℕ) (lines : List (List ℕ)) → noneAccepted lines (startWords n) ≡ true
+    → linesPrinted lines (startWords n) ≡ record { text = textsBefore lines; state = startWords n }
+unfolding linesPrinted
+none-accepted n lines h = simp append-nil at (before-an-accepted-setup n lines [] h)
+
+-- and as soon as one is
+pub after-an-accepted-setup : (n : ℕ) (lines : List (List ℕ)) → noneAccepted lines (startWords n) ≡ false → OrderlyWords (linesPrinted lines (startWords n) .state)
+after-an-accepted-setup n lines h = lines-after lines (startWords n) (start-broken n) h
