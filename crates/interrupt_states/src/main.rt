@@ -141,9 +141,9 @@ fn inputs(r: InterruptRecord) {
 }
 
 fn settings(r: InterruptRecord) {
-    show(r.set_priority(Priority(0)));
-    show(r.set_priority(Priority(128)));
-    show(r.set_priority(Priority(255)));
+    show(r.set_priority(Priority::new(0)));
+    show(r.set_priority(Priority::new(128)));
+    show(r.set_priority(Priority::new(255)));
     show(r.set_trigger(TriggerMode::Level));
     show(r.set_trigger(TriggerMode::Edge));
     show(r.set_cpu_target_mask(0));
