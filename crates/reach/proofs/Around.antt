@@ -1,4 +1,4 @@
--- What is written to a state is written to its slots, to the count's and the limit's never: a change of the lent words that the others do not see
+-- What is written to a state is written to its slots, to the count's and the limit's never: a change of lent words that the others do not see
 -- comes to the same before a write and after it. Assumes nothing.
 use mathlib.Core.Path.{_≡_, refl, ap, _∙_}
 use mathlib.Core.Bool.{Bool, true, false, cond}

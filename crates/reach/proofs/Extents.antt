@@ -23,26 +23,17 @@ use Rattle.state.proofs.Starting.{fresh-length}
 use Rattle.state.proofs.Validated.{limited-limits}
 use Rattle.answer.specs.Answer.{refused, gave}
 use Rattle.controller.specs.Start.{setupOf, setup}
-use Rattle.distributor_frame.specs.DistributorFrame.{readV2Distributor, writeV2Distributor}
-use Rattle.cpu_interface_frame.specs.CpuInterfaceFrame.{readV2CpuInterface, writeV2CpuInterface}
-use Rattle.input.specs.Input.{deviceInput}
 use Rattle.history.specs.History.{Call, Setup, ReadDistributor, WriteDistributor, ReadCpuInterface, WriteCpuInterface, SetLevel, Pulse, isSetup, called}
-use Rattle.history.proofs.Each.{setup-or-other}
+use Rattle.history.proofs.Each.{setup-or-other, any-words}
 use Rattle.reach.specs.Reach.{sizeOr, storedExtent, extent}
 use Rattle.reach.proofs.Outcomes.{wrapped, Carries}
 use Rattle.reach.proofs.Calls.{call-carries}
 use Rattle.reach.proofs.Beside.{behind}
 
 -- a call on words that are no state
-pub broken-call : (c : Call) (s : List ℕ) → isSetup c ≡ false → validated s ≡ Broken → called c s ≡ refused BrokenState s
-unfolding readV2Distributor writeV2Distributor readV2CpuInterface writeV2CpuInterface deviceInput
-broken-call (Setup count limit) s e p = absurd (true≢false e)
-broken-call (ReadDistributor v offset width) s e p = simp p
-broken-call (WriteDistributor v offset width value) s e p = simp p
-broken-call (ReadCpuInterface v offset width) s e p = simp p
-broken-call (WriteCpuInterface v offset width value) s e p = simp p
-broken-call (SetLevel v n asserted) s e p = simp p
-broken-call (Pulse v n) s e p = simp p
+broken-call : (c : Call) (s : List ℕ) → isSetup c ≡ false → validated s ≡ Broken → called c s ≡ refused BrokenState s
+broken-call c s other p =
+    any-words s (λ d o. o ≡ refused BrokenState s) (λ d e. refl) (λ shape q d e. let z : _≡_ {A = ℕ} 0 1 = cc in absurd (omega arith)) c other
 
 -- every other call has one extent
 pub other-extent : (c : Call) (s : List ℕ) → isSetup c ≡ false → extent c s ≡ storedExtent s
@@ -140,7 +131,7 @@ module _ (a x : List ℕ) where
 -- a call leaves as many words as there were
 pub call-long : (c : Call) (s : List ℕ) → length (called c s .state) ≡ length s
 unfolding setup
-call-long c s = setup-or-other (λ d. length (called d s .state) ≡ length s) (λ count limit. setup-long (limited count limit)) (λ d other. other-long d other (validated s) refl) c
+call-long c s = setup-or-other (λ d. length (called d s .state) ≡ length s) (λ count limit. setup-long (limited count limit)) other-long c
   where
     setup-long : (l : Limited) → length (setupOf l s .state) ≡ length s
     setup-long Outside = refl
@@ -150,7 +141,7 @@ call-long c s = setup-or-other (λ d. length (called d s .state) ≡ length s) (
         go true = fresh-length shape s
         go false = refl
 
-    other-long : (d : Call) → isSetup d ≡ false → (l : Lent) → validated s ≡ l → length (called d s .state) ≡ length s
-    other-long d other (Sound shape) p =
-        call-carries {shape = shape} {wrap = λ r. r} (record { alike = λ r h. record { agree = λ t e inner. refl }; puts = λ r h t e inner w. refl }) s p p d other .long
-    other-long d other Broken p = ap (λ o. length (o .state)) (broken-call d s other p)
+    other-long : (d : Call) → isSetup d ≡ false → length (called d s .state) ≡ length s
+    other-long =
+        any-words s (λ d o. length (o .state) ≡ length s) (λ d e. refl)
+        (λ shape p d e. call-carries {shape = shape} {wrap = λ r. r} (record { alike = λ r h. record { agree = λ t x inner. refl }; puts = λ r h t x inner w. refl }) s p p d e .long)

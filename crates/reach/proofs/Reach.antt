@@ -1,5 +1,5 @@
--- Document 01: "Bytes past it never change"; nor are they ever read. Of one call on any words; of calls without a setup on any words; of an accepted
--- setup and what follows; of any history at all. Assumes nothing.
+-- Document 01: "Bytes past it never change"; nor are they ever read. Of one call on any words; of calls without a setup on any words; of an
+-- accepted setup and such calls after it; of any history at all. Assumes nothing.
 use mathlib.Core.Path.{_≡_, refl, sym, ap, _∙_}
 use mathlib.Core.Bool.{true, false, not}
 use mathlib.Core.List.{List, [], _∷_}
@@ -10,19 +10,17 @@ use borrow.Author.Tests.{not-true}
 use Rattle.state.specs.declared.layout.Shape.{Shape}
 use Rattle.state.specs.declared.lent.Limited.{Limited}
 use Rattle.state.specs.declared.lent.Limited.the-variants.{Within, Outside}
-use Rattle.state.specs.declared.lent.Lent.{Lent}
-use Rattle.state.specs.declared.lent.Lent.the-variants.{Sound, Broken}
 use Rattle.state.specs.Layout.{size}
-use Rattle.state.specs.Lent.{shaped, limited, storedShape, validated, Held}
+use Rattle.state.specs.Lent.{shaped, limited, storedShape, Held}
 use Rattle.state.proofs.Places.{size-bound}
 use Rattle.state.proofs.Tests.{left-true, right-true}
 use Rattle.state.proofs.Validated.{limited-shape, limited-limits, limits-limited}
 use Rattle.history.specs.History.{Call, Setup, isSetup, called, run, handed, answers, noSetup, Accepted}
 use Rattle.history.proofs.Always.{a-fresh-controller}
-use Rattle.history.proofs.Each.{setup-or-other}
+use Rattle.history.proofs.Each.{setup-or-other, any-words}
 use Rattle.reach.specs.Reach.{sizeOr, storedExtent, extent, ReachAtMost, SameFront}
 use Rattle.reach.proofs.Beside.{head-stays}
-use Rattle.reach.proofs.Extents.{broken-call, other-extent, call-long}
+use Rattle.reach.proofs.Extents.{other-extent, call-long}
 use Rattle.reach.proofs.Never.{calls-never-write, calls-never-read}
 
 -- a call
@@ -41,11 +39,9 @@ module _ (c : Call) (s : List ℕ) where
 
 -- calls without a setup: the stored count and limit stay, and so does what they reach
 pub stored-stays : (c : Call) (s : List ℕ) → isSetup c ≡ false → storedShape (called c s .state) ≡ storedShape s
-stored-stays c s other = go (validated s) refl
-  where
-    go : (l : Lent) → validated s ≡ l → storedShape (called c s .state) ≡ storedShape s
-    go (Sound shape) p = let head = head-stays c s other p in λ i. limited (head .0 i) (head .1 i)
-    go Broken p = ap (λ o. storedShape (o .state)) (broken-call c s other p)
+stored-stays c s =
+    any-words s (λ d o. storedShape (o .state) ≡ storedShape s) (λ d e. refl)
+    (λ shape p d e. let head = head-stays d s e p in λ i. limited (head .0 i) (head .1 i)) c
 
 no-setup-reach : (n : ℕ) (cs : List Call) → noSetup cs ≡ true → (s : List ℕ) → storedExtent s ≤ n → ReachAtMost n cs s
 no-setup-reach n [] e s h = tt

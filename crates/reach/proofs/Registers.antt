@@ -2,12 +2,9 @@
 use mathlib.Core.Path.{_≡_, refl, sym, ap, _∙_}
 use mathlib.Core.Bool.{Bool, true, false}
 use mathlib.Core.List.{List}
-use Prim.Native.Nat.{ℕ, _%_, _<_}
-use native.Mathlib.Omega.{arith}
-use lib.Dec.{ltb}
+use Prim.Native.Nat.{ℕ, _<_}
 use lib.ListN.{length}
-use Rattle.interrupt.specs.Types.{decoded}
-use Rattle.interrupt.specs.declared.types.IntId.{IntId}
+use Rattle.interrupt.specs.Types.{isValid}
 use Rattle.interrupt.specs.declared.types.DecodedIntId.{DecodedIntId}
 use Rattle.interrupt.specs.declared.types.DecodedIntId.the-variants.{Valid, Reserved}
 use Rattle.register.specs.declared.«cpu_interface».CpuInterfaceRegister.{CpuInterfaceRegister}
@@ -25,7 +22,7 @@ use Rattle.acknowledge.specs.declared.Read.{Read}
 use Rattle.acknowledge.specs.declared.Read.the-variants.{Value, StackFull}
 use Rattle.acknowledge.specs.Acknowledge.{offer, answered, taken, acknowledge, acknowledged}
 use Rattle.end.specs.End.{decodedEoi, eoiState, eoiRetired, dirState, dirRetired}
-use Rattle.cpu_interface.specs.CpuInterface.{readRegister, afterRead, writeRegister, writeRetired, readRegisterLooksUp, writeRegisterLooksUp, decodes}
+use Rattle.cpu_interface.specs.CpuInterface.{WriteRule, Ignored, Keeps, Ends, Deactivates, ruleOf, writeBy, retiredBy, writeByLooksUp, readRegister, afterRead, readRegisterLooksUp, writeRegister, writeRetired, writeRegisterLooksUp}
 use Rattle.cpu_interface_frame.specs.CpuInterfaceFrame.{readAnswer}
 use Rattle.reach.proofs.Readings.{Inner, enabled-alike, interface-alike, highest-alike, retired-alike, running-alike, acknowledge-alike}
 use Rattle.reach.proofs.Around.{Around, Passes, none-passes}
@@ -36,15 +33,6 @@ use Rattle.reach.proofs.Outcomes.{Carries, gave-carries}
 pub record Written (wrap : List ℕ → List ℕ) (x : List ℕ → ℕ) (g : List ℕ → List ℕ) (s : List ℕ) : Type 0 where
   pub alike : x (wrap s) ≡ x s
   pub passes : Passes wrap g s
-
--- a number that decodes is looked up
-valid-looks : (value : ℕ) (n : IntId) → decodedEoi value ≡ Valid n → decodes value ≡ true
-unfolding decoded
-valid-looks value n p = go (ltb (value % 1024) 1020) refl
-  where
-    go : (b : Bool) → ltb (value % 1024) 1020 ≡ b → decodes value ≡ true
-    go true e = simp e
-    go false e = let q : Reserved ≡ Valid n = simp e at p in let z : _≡_ {A = ℕ} 0 1 = cc in absurd (omega arith)
 
 -- while the Distributor is off an acknowledge reads and changes nothing
 module _ (shape : Shape) (v : ℕ) (s : List ℕ) (off : enabledAt shape s ≡ false) where
@@ -114,33 +102,22 @@ module _ {shape : Shape} {wrap : List ℕ → List ℕ} (around : Around shape w
     kept-written : (k : InterfaceValue) → v < shape .count → Written wrap (λ r. 1023) (withInterface shape v k value) s
     kept-written k exists = record { alike = refl; passes = interface-through around v exists k value s (h .state) }
 
-    ended-written : (number : DecodedIntId) → decodedEoi value ≡ number → (decodes value ≡ true → v < shape .count) → Written wrap (eoiRetired shape v number) (eoiState shape v number) s
-    ended-written Reserved p looked = nothing
-    ended-written (Valid n) p looked =
-        let exists = looked (valid-looks value n p) in
-        let served = sound-served v h exists in
-        record { alike = end-retired-alike around v exists s served (n .0); passes = ended-passes around v exists s served (n .0) }
+    ended-written : (number : DecodedIntId) → (isValid number ≡ true → v < shape .count) → Written wrap (eoiRetired shape v number) (eoiState shape v number) s
+    ended-written Reserved looked = nothing
+    ended-written (Valid n) looked =
+        let served = sound-served v h (looked refl) in
+        record { alike = end-retired-alike around v (looked refl) s served (n .0); passes = ended-passes around v (looked refl) s served (n .0) }
 
-    deactivated-written : (number : DecodedIntId) → decodedEoi value ≡ number → (decodes value ≡ true → v < shape .count) → Written wrap (dirRetired shape v number) (dirState shape v number) s
-    deactivated-written Reserved p looked = nothing
-    deactivated-written (Valid n) p looked =
-        let exists = looked (valid-looks value n p) in
-        record { alike = retired-alike same v exists (n .0); passes = deactivated-through around v exists (n .0) s (h .state) }
+    deactivated-written : (number : DecodedIntId) → (isValid number ≡ true → v < shape .count) → Written wrap (dirRetired shape v number) (dirState shape v number) s
+    deactivated-written Reserved looked = nothing
+    deactivated-written (Valid n) looked = record { alike = retired-alike same v (looked refl) (n .0); passes = deactivated-through around v (looked refl) (n .0) s (h .state) }
+
+    written-by : (rule : WriteRule) → (writeByLooksUp rule value ≡ true → v < shape .count) → Written wrap (retiredBy shape v rule value) (writeBy shape v rule value) s
+    written-by Ignored looked = nothing
+    written-by (Keeps k) looked = kept-written k (looked refl)
+    written-by Ends looked = ended-written (decodedEoi value) looked
+    written-by Deactivates looked = deactivated-written (decodedEoi value) looked
 
     pub register-written : (register : CpuInterfaceRegister) → (writeRegisterLooksUp register value ≡ true → v < shape .count)
         → Written wrap (writeRetired shape v register value) (writeRegister shape v register value) s
-    register-written Ctlr looked = kept-written Control (looked refl)
-    register-written Pmr looked = kept-written PriorityMask (looked refl)
-    register-written Bpr looked = kept-written BinaryPoint (looked refl)
-    register-written Iar looked = nothing
-    register-written Eoir looked = ended-written (decodedEoi value) refl looked
-    register-written Rpr looked = nothing
-    register-written Hppir looked = nothing
-    register-written Abpr looked = kept-written BinaryPoint (looked refl)
-    register-written Aiar looked = nothing
-    register-written Aeoir looked = ended-written (decodedEoi value) refl looked
-    register-written Ahppir looked = nothing
-    register-written Apr looked = nothing
-    register-written Iidr looked = nothing
-    register-written Dir looked = deactivated-written (decodedEoi value) refl looked
-    register-written Other looked = nothing
+    register-written register = written-by (ruleOf register .writes)
