@@ -92,6 +92,6 @@ extent-bound c s =
     setup-or-other (λ d. extent d s ≤ 3447) (λ count limit. largest 0 (omega arith) count limit (limited count limit) refl)
     (λ d other. rw (other-extent d s other) (largest 2 (omega arith) (getD s 0 0) (getD s 1 0) (storedShape s) refl)) c
 
-pub reach-bound : (cs : List Call) (s : List ℕ) → ReachAtMost 3447 cs s
-reach-bound [] s = tt
-reach-bound (c ∷ cs) s = (extent-bound c s, reach-bound cs (called c s .state))
+pub largest-reach : (cs : List Call) (s : List ℕ) → ReachAtMost 3447 cs s
+largest-reach [] s = tt
+largest-reach (c ∷ cs) s = (extent-bound c s, largest-reach cs (called c s .state))
