@@ -24,6 +24,9 @@ use state::lent::validate_state;
 use state::words::distributor_enabled;
 use wake::quiet_vcpus;
 
+// How many values 32 bits have: no register takes more.
+const REGISTER_VALUES: u64 = 0x1_0000_0000;
+
 fn read_at(
     words: &mut [u32],
     shape: Shape,
@@ -93,7 +96,13 @@ pub fn write_v2_cpu_interface(
     match locate_cpu_interface(offset, width) {
         CpuInterfaceAccess::Refused(refusal) => Answer::Refused(refusal),
         CpuInterfaceAccess::At(register) => {
-            write_at(words, shape, vcpu, register, (value % 4294967296) as u32)
+            write_at(
+                words,
+                shape,
+                vcpu,
+                register,
+                (value % REGISTER_VALUES) as u32,
+            )
         }
     }
 }

@@ -26,6 +26,9 @@ use state::Shape;
 use state::lent::validate_state;
 use wake::quiet_vcpus;
 
+// How many values 32 bits have: no register takes more.
+const REGISTER_VALUES: u64 = 0x1_0000_0000;
+
 // A private register at a width that it does not take: 3 comes before 2.
 fn private_width(shape: Shape, vcpu: GicVcpuId) -> Answer
     ensures { λ r. ⌜ ((s : List ℕ) → outcome r s ≡ privateWidth shape (vcpu .0) s) ⌝ }
@@ -106,7 +109,7 @@ pub fn write_v2_distributor(
                 vcpu,
                 place,
                 width,
-                (value % 4294967296) as u32,
+                (value % REGISTER_VALUES) as u32,
             )
         }
     }

@@ -15,7 +15,7 @@ readyWord needed w = eqb (bitAnd w (needed + 4)) needed
 
 -- the bits of an SPI for the vCPU v: enabled, pending, its mask set and v in the mask
 abbrev pub neededOfSpi : ℕ → ℕ
-neededOfSpi v = 131 + 65536 * 2 ^ v
+neededOfSpi v = 3 + 128 + 2 ^ 16 * 2 ^ v
 
 -- the key of a selection, `none` where there is none
 abbrev pub keyOf : ℕ → Selected → ℕ
