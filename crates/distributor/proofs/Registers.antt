@@ -1,11 +1,11 @@
 -- What an access to a byte register reads and does, number by number, for all four registers and the three widths at once. Assumes nothing.
 use mathlib.Core.Path.{_≡_}
-use mathlib.Core.Bool.{true, false, _&&_}
+use mathlib.Core.Bool.{true, false, not, _&&_}
 use mathlib.Core.List.{List}
 use Prim.Native.Nat.{ℕ, _+_, _≤_, _<_}
 use native.Mathlib.Omega.{arith}
-use lib.Dec.{leb, ltb}
-use borrow.Author.Tests.{leb-true, ltb-true}
+use lib.Dec.{ltb}
+use borrow.Author.Tests.{ltb-true}
 use Rattle.interrupt.specs.Record.{setPriority, setCpuTargetMask}
 use Rattle.register.specs.declared.ranges.ByteRegister.{ByteRegister}
 use Rattle.register.specs.declared.ranges.ByteRegister.the-variants.{Ipriorityr, Itargetsr, Cpendsgir, Spendsgir}
@@ -17,7 +17,7 @@ use Rattle.state.specs.Words.{wordAt}
 use Rattle.state.proofs.Accessors.{record-exists}
 use Rattle.state.proofs.Numbers.{Of, if-local, changed-local, run-written, run-others}
 use Rattle.state.proofs.Steps.{Agree, Local, steps-room}
-use Rattle.state.proofs.Tests.{left-true, right-true}
+use Rattle.state.proofs.Tests.{left-true, right-true, not-below}
 use Rattle.targets.specs.Targets.{existingBits, writeTarget}
 use Rattle.sgi.proofs.Rings.{write-local}
 use Rattle.distributor.specs.Bytes.{writePriority, readByte, writeByte, readBytes, writeBytes, ByteThere, BytesAt}
@@ -37,10 +37,10 @@ byte-local shape Ipriorityr v n byte l there =
     if-local (ltb n (shape .limit))
     (λ e. changed-local shape v n (λ r. setPriority r (record { 0 = byte })) (record-exists shape v n (record { numbered = ltb-true n (shape .limit) e; banked = there })))
 byte-local shape Itargetsr v n byte l there =
-    if-local (leb 32 n && ltb n (shape .limit))
+    if-local (not (ltb n 32) && ltb n (shape .limit))
     (λ e.
-    let h : 32 ≤ n = leb-true 32 n (left-true (leb 32 n) (ltb n (shape .limit)) e) in
-    let b : n < shape .limit = ltb-true n (shape .limit) (right-true (leb 32 n) (ltb n (shape .limit)) e) in
+    let h : 32 ≤ n = not-below n 32 (left-true (not (ltb n 32)) (ltb n (shape .limit)) e) in
+    let b : n < shape .limit = ltb-true n (shape .limit) (right-true (not (ltb n 32)) (ltb n (shape .limit)) e) in
     changed-local shape v n (λ r. setCpuTargetMask r (existingBits shape byte)) (record-exists shape v n (record { numbered = b; banked = λ p. absurd (omega arith) })))
 byte-local shape Cpendsgir v n byte l there = write-local shape v n l there false byte
 byte-local shape Spendsgir v n byte l there = write-local shape v n l there true byte

@@ -7,9 +7,9 @@ use Prim.Native.Nat.{ℕ, zero, suc, _+_, _*_, _/_, _%_, _^_, _≤_, _<_}
 use native.Mathlib.Nat.{mod-lt}
 use native.Mathlib.Omega.{arith}
 use lib.Bits.{bitOr}
-use lib.Dec.{eqb, leb, ltb}
+use lib.Dec.{eqb, ltb}
 use lib.Pow.{pow-pos, pow-lt}
-use borrow.Author.Tests.{leb-true, ltb-true, ltb-false, ne-eqb}
+use borrow.Author.Tests.{ltb-true, ne-eqb}
 use Rattle.interrupt.specs.Record.{setPending}
 use Rattle.register.specs.declared.frame.AccessWidth.{AccessWidth}
 use Rattle.register.specs.declared.ranges.BitRegister.{BitRegister}
@@ -25,7 +25,7 @@ use Rattle.state.specs.declared.layout.Shape.{Shape}
 use Rattle.state.specs.Loop.{upTo}
 use Rattle.state.specs.Words.{RecordThere, recordAt, withRecord, changed, sourcesAt, withSources}
 use Rattle.state.proofs.Accessors.{sources-same}
-use Rattle.state.proofs.Tests.{left-true, right-true}
+use Rattle.state.proofs.Tests.{left-true, right-true, not-below}
 use Rattle.bits.specs.Bits.{fieldBits, perWord, acts, act, clearActive, writeNumber, writeBits, WordAt}
 use Rattle.targets.specs.Targets.{existingBits, writeTarget}
 use Rattle.sgi.specs.Sgi.{mergedSources, writeSources, sourced, pendSgi, includes, sgiTarget, sentTo, sendSgi, writeSgir}
@@ -60,13 +60,6 @@ module _ {shape : Shape} {May : Move → Type 0} where
       let before = each-chain f n (λ i b. steps i (omega (arith, b))) s h in
       join before (steps n (omega arith) (upTo f n s) (chain-sound before h))
 
-no-sgi : (n : ℕ) → not (ltb n 16) ≡ true → 16 ≤ n
-no-sgi n = go (ltb n 16) refl
-  where
-    go : (b : Bool) → ltb n 16 ≡ b → not b ≡ true → 16 ≤ n
-    go true p q = absurd (false≢true q)
-    go false p q = ltb-false n 16 p
-
 -- a field of a bit register: in flight or not, the record that ICACTIVER leaves is one of two changes'
 module _ (shape : Shape) (v n : ℕ) (there : RecordThere shape v n) (r : List ℕ) where
   changes : {May : Move → Type 0} (c : Change) → May (Changed v n c) → Fits shape v n c (recordAt shape v n r) → Chain shape May r (changed shape v n (becomes c) r)
@@ -88,11 +81,11 @@ module _ (shape : Shape) (v n : ℕ) (there : RecordThere shape v n) (r : List �
     acted-chain Igroupr e may = absurd (false≢true e)
     acted-chain Isenabler e may = changes (moves.SetEnabled true) (may _ refl) tt
     acted-chain Icenabler e may = changes (moves.SetEnabled false) (may _ refl) tt
-    acted-chain Ispendr e may = changes (moves.SetPending true) (may _ refl) (no-sgi n (right-true (eqb x 1) (not (ltb n 16)) e))
-    acted-chain Icpendr e may = changes (moves.SetPending false) (may _ refl) (no-sgi n (right-true (eqb x 1) (not (ltb n 16)) e))
+    acted-chain Ispendr e may = changes (moves.SetPending true) (may _ refl) (not-below n 16 (right-true (eqb x 1) (not (ltb n 16)) e))
+    acted-chain Icpendr e may = changes (moves.SetPending false) (may _ refl) (not-below n 16 (right-true (eqb x 1) (not (ltb n 16)) e))
     acted-chain Isactiver e may = changes (moves.SetActive true) (may _ refl) tt
     acted-chain Icactiver e may = cleared-chain may
-    acted-chain Icfgr e may = changes (moves.SetTrigger _) (may _ refl) (no-sgi n e)
+    acted-chain Icfgr e may = changes (moves.SetTrigger _) (may _ refl) (not-below n 16 e)
 
 -- a source set, by SPENDSGIR, CPENDSGIR or SGIR: its pending bit is what its sources then say
 module _ (shape : Shape) (v n : ℕ) (exists : v < shape .count) (sgi : n < 16) (r : List ℕ) (h : Sound shape r) where
@@ -129,10 +122,10 @@ unfolding writePriority writeTarget
 byte-chain shape Ipriorityr v n byte at b r h may =
     if-chain (ltb n (shape .limit)) (λ e. changes shape v n (record { numbered = ltb-true n (shape .limit) e; banked = at }) r (moves.SetPriority byte) may b)
 byte-chain shape Itargetsr v n byte at b r h may =
-    if-chain (leb 32 n && ltb n (shape .limit))
+    if-chain (not (ltb n 32) && ltb n (shape .limit))
     (λ e.
-    let high : 32 ≤ n = leb-true 32 n (left-true (leb 32 n) (ltb n (shape .limit)) e) in
-    let below : n < shape .limit = ltb-true n (shape .limit) (right-true (leb 32 n) (ltb n (shape .limit)) e) in
+    let high : 32 ≤ n = not-below n 32 (left-true (not (ltb n 32)) (ltb n (shape .limit)) e) in
+    let below : n < shape .limit = ltb-true n (shape .limit) (right-true (not (ltb n 32)) (ltb n (shape .limit)) e) in
     changes shape v n (record { numbered = below; banked = λ low. absurd (omega (arith, high, low)) }) r (moves.SetCpuTargetMask (existingBits shape byte)) may (high, mod-lt byte (pow-pos (shape .count))))
 byte-chain shape Cpendsgir v n byte at b r h may = sources-chain shape v n (at .0) (at .1) r h false byte b may
 byte-chain shape Spendsgir v n byte at b r h may = sources-chain shape v n (at .0) (at .1) r h true byte b may

@@ -1,12 +1,11 @@
 -- Every call but setup, to any words that pass the test of refusal 6, case by case: what it is refused by, what it answers where nothing
 -- changes, and the five ways in which it changes something. What holds in each case holds of every call. Assumes nothing.
 use mathlib.Core.Path.{_≡_, refl, subst}
-use mathlib.Core.Bool.{Bool, true, false, cond, _&&_, true≢false}
+use mathlib.Core.Bool.{Bool, true, false, not, cond, _&&_, true≢false}
 use mathlib.Core.List.{List, [], _∷_}
 use Prim.Native.Nat.{ℕ, _%_, _^_, _≤_, _<_}
 use native.Mathlib.Omega.{arith}
-use lib.Dec.{leb, ltb}
-use borrow.Author.Tests.{leb-true}
+use lib.Dec.{ltb}
 use Rattle.register.specs.declared.frame.AccessWidth.{AccessWidth}
 use Rattle.register.specs.declared.distributor.Place.{Place}
 use Rattle.register.specs.declared.«cpu_interface».CpuInterfaceRegister.{CpuInterfaceRegister}
@@ -22,7 +21,7 @@ use Rattle.state.specs.declared.lent.Lent.{Lent}
 use Rattle.state.specs.declared.lent.Lent.the-variants.{Sound, Broken}
 use Rattle.state.specs.Lent.{validated}
 use Rattle.state.specs.Words.{RecordThere, changed, enabledAt}
-use Rattle.state.proofs.Tests.{left-true}
+use Rattle.state.proofs.Tests.{left-true, not-below}
 use Rattle.state.proofs.Validated.{held-validated}
 use Rattle.service.specs.Service as service
 use Rattle.service.proofs.Soundness.{validated-sound}
@@ -94,10 +93,10 @@ IsInput n Outside = Unit
 
 input-is : (shape : Shape) (n : ℕ) → IsInput n (inputOf shape n)
 unfolding inputOf
-input-is shape n = go (leb 16 n && ltb n (shape .limit)) refl
+input-is shape n = go (not (ltb n 16) && ltb n (shape .limit)) refl
   where
-    go : (b : Bool) → (leb 16 n && ltb n (shape .limit)) ≡ b → IsInput n (cond b (Device (record { 0 = n })) Outside)
-    go true e = (refl, leb-true 16 n (left-true (leb 16 n) (ltb n (shape .limit)) e))
+    go : (b : Bool) → (not (ltb n 16) && ltb n (shape .limit)) ≡ b → IsInput n (cond b (Device (record { 0 = n })) Outside)
+    go true e = (refl, not-below n 16 (left-true (not (ltb n 16)) (ltb n (shape .limit)) e))
     go false e = tt
 
 pub setup-or-other : (P : Call → Type 0) → ((count limit : ℕ) → P (Setup count limit)) → ((c : Call) → isSetup c ≡ false → P c) → (c : Call) → P c

@@ -1,10 +1,10 @@
 -- An input that passed its tests has a record, and makes no state one that refusal 6 is for. Assumes nothing.
 use mathlib.Core.Path.{_≡_, refl, subst}
-use mathlib.Core.Bool.{Bool, true, false, cond, _&&_}
+use mathlib.Core.Bool.{Bool, true, false, not, cond, _&&_}
 use mathlib.Core.List.{List}
 use Prim.Native.Nat.{ℕ, _<_}
 use native.Mathlib.Omega.{arith}
-use lib.Dec.{leb, ltb}
+use lib.Dec.{ltb}
 use borrow.Author.Tests.{ltb-true, lt-ltb}
 use Rattle.interrupt.specs.declared.types.IntId.{IntId}
 use Rattle.interrupt.specs.declared.record.InterruptRecord.{InterruptRecord}
@@ -35,10 +35,10 @@ Below shape Outside = Unit
 pub input-there : (shape : Shape) (v number : ℕ) (n : IntId) → inputOf shape number ≡ Device n → absent (ltb (n .0) 32) shape v ≡ false → RecordThere shape v (n .0)
 unfolding inputOf
 input-there shape v number n p e = record {
-  numbered = subst (Below shape) p (go (leb 16 number && ltb number (shape .limit)) refl);
+  numbered = subst (Below shape) p (go (not (ltb number 16) && ltb number (shape .limit)) refl);
   banked = λ low. present (ltb (n .0) 32) shape v e (lt-ltb (n .0) 32 low);
 }
   where
-    go : (b : Bool) → (leb 16 number && ltb number (shape .limit)) ≡ b → Below shape (cond b (Device (record { 0 = number })) Outside)
-    go true q = ltb-true number (shape .limit) (right-true (leb 16 number) (ltb number (shape .limit)) q)
+    go : (b : Bool) → (not (ltb number 16) && ltb number (shape .limit)) ≡ b → Below shape (cond b (Device (record { 0 = number })) Outside)
+    go true q = ltb-true number (shape .limit) (right-true (not (ltb number 16)) (ltb number (shape .limit)) q)
     go false q = tt

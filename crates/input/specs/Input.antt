@@ -1,12 +1,12 @@
 -- Device inputs: document 01, "Port order" 1 ("Device input calls `set_level` and `pulse`") and "Refusal numbers": "Device input: 6, 8, 3"; the
 -- vCPU is not looked up for SPI inputs.
 use mathlib.Core.Path.{_≡_}
-use mathlib.Core.Bool.{Bool, cond, _&&_}
+use mathlib.Core.Bool.{Bool, not, cond, _&&_}
 use mathlib.Core.List.{List}
 use Prim.Native.Nat.{ℕ}
-use lib.Dec.{leb, ltb}
+use lib.Dec.{ltb}
 use Rattle.interrupt.specs.declared.record.InterruptRecord.{InterruptRecord}
-use Rattle.interrupt.specs.Types.{isPrivateId}
+use Rattle.interrupt.specs.Types.{isSgi, isPrivateId}
 use Rattle.interrupt.specs.Record as record-of
 use Rattle.register.specs.declared.frame.Refusal.the-variants as refusal
 use Rattle.state.specs.declared.layout.Shape.{Shape}
@@ -25,7 +25,7 @@ signalled Edge r = record-of.pulse r
 
 -- 8: "the number is 0 to 15, or not below the limit"
 unfoldable pub inputOf : Shape → ℕ → InputNumber
-inputOf shape n = cond (leb 16 n && ltb n (shape .limit)) (Device (record { 0 = n })) Outside
+inputOf shape n = cond (not (isSgi (record { 0 = n })) && ltb n (shape .limit)) (Device (record { 0 = n })) Outside
 
 abbrev pub inputAt : Shape → ℕ → Signal → InputNumber → List ℕ → Outcome
 inputAt shape v signal Outside s = refused refusal.Input s

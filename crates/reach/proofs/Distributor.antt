@@ -5,8 +5,8 @@ use mathlib.Core.List.{List}
 use Prim.Native.Nat.{ℕ, _+_, _%_, _^_, _≤_, _<_}
 use native.Mathlib.Omega.{arith}
 use lib.Bits.{bitOr}
-use lib.Dec.{eqb, leb, ltb}
-use borrow.Author.Tests.{leb-true, ltb-true}
+use lib.Dec.{eqb, ltb}
+use borrow.Author.Tests.{ltb-true}
 use Rattle.interrupt.specs.Record.{setPending, setPriority, setCpuTargetMask}
 use Rattle.register.specs.declared.ranges.BitRegister.{BitRegister}
 use Rattle.register.specs.declared.ranges.ByteRegister.{ByteRegister}
@@ -17,7 +17,7 @@ use Rattle.state.specs.declared.layout.Shape.{Shape}
 use Rattle.state.specs.Layout.{Sources, Limits}
 use Rattle.state.specs.Words.{recordSlot, RecordThere, recordAt, sourcesAt, withSources}
 use Rattle.state.proofs.Accessors.{record-exists}
-use Rattle.state.proofs.Tests.{left-true, right-true}
+use Rattle.state.proofs.Tests.{left-true, right-true, not-below}
 use Rattle.bits.specs.Bits.{fieldBits, perWord, acts, act, writeNumber, writeBits}
 use Rattle.targets.specs.Targets.{existingBits, writeTarget}
 use Rattle.sgi.specs.Sgi.{pendBySources, mergedSources, writeSources, pendSgi, sgiTarget, includes, sentTo, sendSgi, writeSgir}
@@ -66,11 +66,11 @@ module _ {shape : Shape} {wrap : List ℕ → List ℕ} (around : Around shape w
       if-through (ltb n (shape .limit))
       (λ e. changed-through around v n (λ r. setPriority r (record { 0 = byte })) (record { numbered = ltb-true n (shape .limit) e; banked = there }))
   byte-through limits Itargetsr v n byte there =
-      if-through (leb 32 n && ltb n (shape .limit))
+      if-through (not (ltb n 32) && ltb n (shape .limit))
       (λ e.
-      let shared : 32 ≤ n = leb-true 32 n (left-true (leb 32 n) (ltb n (shape .limit)) e) in
+      let shared : 32 ≤ n = not-below n 32 (left-true (not (ltb n 32)) (ltb n (shape .limit)) e) in
       changed-through around v n (λ r. setCpuTargetMask r (existingBits shape byte))
-      (record { numbered = ltb-true n (shape .limit) (right-true (leb 32 n) (ltb n (shape .limit)) e); banked = λ low. absurd (omega arith) }))
+      (record { numbered = ltb-true n (shape .limit) (right-true (not (ltb n 32)) (ltb n (shape .limit)) e); banked = λ low. absurd (omega arith) }))
   byte-through limits Cpendsgir v n byte there = written-through limits v n (there .0) (there .1) false byte
   byte-through limits Spendsgir v n byte there = written-through limits v n (there .0) (there .1) true byte
 

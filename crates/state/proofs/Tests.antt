@@ -1,9 +1,11 @@
 -- Tests taken together. Assumes nothing.
 use mathlib.Core.Path.{_≡_, refl, sym, _∙_}
-use mathlib.Core.Bool.{Bool, true, false, _&&_, true≢false, false≢true}
-use Prim.Native.Nat.{ℕ, zero, suc, _<_}
+use mathlib.Core.Bool.{Bool, true, false, not, _&&_, true≢false, false≢true}
+use Prim.Native.Nat.{ℕ, zero, suc, _≤_, _<_}
 use native.Mathlib.Nat.{not-suc-le-zero}
 use native.Mathlib.Omega.{arith}
+use lib.Dec.{ltb}
+use borrow.Author.Tests.{ltb-false}
 use Rattle.word.proofs.Cases.{last-or}
 use Rattle.state.specs.Loop.{everyBelow}
 
@@ -14,6 +16,14 @@ left-true false b e = absurd (false≢true e)
 pub right-true : (a b : Bool) → (a && b) ≡ true → b ≡ true
 right-true true b e = e
 right-true false b e = absurd (false≢true e)
+
+-- a number that is not below k
+pub not-below : (n k : ℕ) → not (ltb n k) ≡ true → k ≤ n
+not-below n k = go (ltb n k) refl
+  where
+    go : (b : Bool) → ltb n k ≡ b → not b ≡ true → k ≤ n
+    go true p e = absurd (false≢true e)
+    go false p e = ltb-false n k p
 
 -- all pass: each does; one fails: not all pass
 pub every-at : (f : ℕ → Bool) (n i : ℕ) → everyBelow f n ≡ true → i < n → f i ≡ true

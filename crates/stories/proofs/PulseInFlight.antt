@@ -1,17 +1,16 @@
 -- A pulse that arrives while its interrupt is in flight is given again after it is retired. Assumes nothing.
 use mathlib.Core.Path.{_≡_, refl, sym, ap, _∙_}
-use mathlib.Core.Bool.{Bool, true, false, cond, _||_}
+use mathlib.Core.Bool.{true}
 use mathlib.Core.List.{List}
 use Prim.Native.Nat.{ℕ, _+_, _*_, _<_}
 use native.Mathlib.Omega.{arith}
-use lib.Dec.{leb, eqb, ltb}
-use borrow.Author.Tests.{eqb-true, leb-true, le-ltb}
+use borrow.Author.Tests.{le-ltb}
 use Rattle.interrupt.specs.declared.record.InterruptRecord.{InterruptRecord}
 use Rattle.interrupt.specs.Record as record-of
 use Rattle.word.specs.Word.{recordOf}
 use Rattle.state.specs.declared.layout.Shape.{Shape}
-use Rattle.state.specs.Layout.{Slot, Private, Spi}
-use Rattle.state.specs.Words.{wordAt, recordSlot, recordAt, changed}
+use Rattle.state.specs.Layout.{Slot}
+use Rattle.state.specs.Words.{wordAt, recordAt, changed}
 use Rattle.select.specs.Select.{entryFor}
 use Rattle.acknowledge.specs.Acknowledge.{sourceOf, given}
 use Rattle.answer.specs.Answer.{Outcome, gave, went}
@@ -19,6 +18,7 @@ use Rattle.lawful.specs.Lawful.{Controls}
 use Rattle.history.specs.History.{WriteCpuInterface, Pulse, run}
 use Rattle.history.proofs.Always.{every-other-call}
 use Rattle.waiting.specs.Waiting.{meets, pends}
+use Rattle.waiting.proofs.PendingMoves.{met-slot}
 use Rattle.waiting.proofs.Pends.{pending-stays, a-pulse-waits, pulse-controls}
 use Rattle.stories.specs.Stories as story
 use Rattle.stories.specs.Stories.{PulseInFlight, InService, GivenAgain}
@@ -26,15 +26,6 @@ use Rattle.stories.proofs.Begins.{pulsed-record, a-pulse-is-pending}
 use Rattle.stories.proofs.Calls.{pulse-call}
 use Rattle.stories.proofs.Retiring.{Idle, retiring-idle}
 use Rattle.stories.proofs.Turns.{given-call}
-
--- who meets v's number n has the same record of it
-met-slot : (v n u : ℕ) → meets v n u ≡ true → recordSlot u n ≡ recordSlot v n
-unfolding recordSlot
-met-slot v n u e = go (leb 32 n) refl e
-  where
-    go : (b : Bool) → leb 32 n ≡ b → (b || eqb u v) ≡ true → cond (ltb n 32) (Private u n) (Spi n) ≡ cond (ltb n 32) (Private v n) (Spi n)
-    go true p q = simp (le-ltb n 32 (leb-true 32 n p))
-    go false p q = ap (λ (w : ℕ). cond (ltb n 32) (Private w n) (Spi n)) (eqb-true u v q)
 
 module _ (h : PulseInFlight) (z : InService h) where
   abbrev shape : Shape
@@ -47,7 +38,7 @@ module _ (h : PulseInFlight) (z : InService h) where
   n = h .interrupt
 
   met : (u : ℕ) → meets v n u ≡ true → (s : List ℕ) → recordAt shape u n s ≡ recordAt shape v n s
-  met u e s = ap (λ (t : Slot). recordOf (wordAt shape t s)) (met-slot v n u e)
+  met u e s = ap (λ (t : Slot). recordOf (wordAt shape t s)) (sym (met-slot v n u e))
 
   numbered : n < 1020
   numbered = omega (arith, z .there .numbered, z .controls .lawful .in-range .state .limits .few-numbers)

@@ -1,8 +1,8 @@
 -- Target bytes: document 01, "Distributor places"; IHI 0048, 4.3.12, "Interrupt Processor Targets Registers".
-use mathlib.Core.Bool.{cond, _&&_}
+use mathlib.Core.Bool.{not, cond, _&&_}
 use mathlib.Core.List.{List}
 use Prim.Native.Nat.{ℕ, _%_, _^_}
-use lib.Dec.{leb, ltb}
+use lib.Dec.{ltb}
 use Rattle.interrupt.specs.Types.{isPrivateId}
 use Rattle.interrupt.specs.Record.{setCpuTargetMask}
 use Rattle.word.specs.Word.{maskByte}
@@ -23,4 +23,4 @@ existingBits shape byte = byte % 2 ^ shape .count
 
 -- "An SPI byte keeps the written byte masked to existing vCPUs"; bytes 0 to 31 and those from the limit up "ignore writes"
 unfoldable pub writeTarget : Shape → ℕ → ℕ → ℕ → List ℕ → List ℕ
-writeTarget shape v n byte s = cond (leb 32 n && ltb n (shape .limit)) (changed shape v n (λ r. setCpuTargetMask r (existingBits shape byte)) s) s
+writeTarget shape v n byte s = cond (not (isPrivateId (record { 0 = n })) && ltb n (shape .limit)) (changed shape v n (λ r. setCpuTargetMask r (existingBits shape byte)) s) s

@@ -5,7 +5,7 @@ use mathlib.Core.List.{List}
 use Prim.Native.Nat.{ℕ, _%_, _^_, _≤_, _<_}
 use native.Mathlib.Omega.{arith}
 use lib.Dec.{eqb, ltb}
-use borrow.Author.Tests.{ltb-true, lt-ltb, le-leb, eqb-true}
+use borrow.Author.Tests.{ltb-true, lt-ltb, le-ltb, eqb-true}
 use Rattle.register.specs.declared.frame.AccessWidth.{AccessWidth}
 use Rattle.register.specs.declared.distributor.Place.{Place}
 use Rattle.register.specs.declared.distributor.DistributorAccess.the-variants as distributor
@@ -45,7 +45,7 @@ module _ (shape : Shape) (s : List ℕ) (h : Controls shape s) (v : ℕ) where
   pub input-call : (signal : Signal) (n : ℕ) → RecordThere shape v n → 16 ≤ n → deviceInput signal v n s ≡ went shape 1023 s (changed shape v n (signalled signal) s)
   unfolding deviceInput inputOf
   input-call signal n there past =
-      simp (valid shape s h, le-leb 16 n past, lt-ltb n (shape .limit) (there .numbered), found (ltb n 32) shape v (λ e. there .banked (ltb-true n 32 e)))
+      simp (valid shape s h, le-ltb n 16 past, lt-ltb n (shape .limit) (there .numbered), found (ltb n 32) shape v (λ e. there .banked (ltb-true n 32 e)))
 
   -- a read that answers x hands out this
   pub record HandsOut (x : ℕ) (after : List ℕ) : Type 0 where

@@ -1,13 +1,13 @@
 -- The moves that leave a PPI or SPI pending: a change of another record, a change of its own that clears no pending bit, an interrupt given that
 -- is another. Assumes nothing.
 use mathlib.Core.Path.{_≡_, refl, sym, ap, subst, _∙_}
-use mathlib.Core.Bool.{Bool, true, false, cond, _&&_, _||_}
+use mathlib.Core.Bool.{Bool, true, false, not, cond, _&&_, _||_}
 use mathlib.Core.List.{List}
 use mathlib.Core.Logic.{inl, inr}
 use Prim.Native.Nat.{ℕ, _≤_, _<_}
 use native.Mathlib.Omega.{arith}
-use lib.Dec.{eqb, leb}
-use borrow.Author.Tests.{eq-eqb, eqb-true, leb-true, leb-false, le-ltb, lt-leb}
+use lib.Dec.{eqb, ltb}
+use borrow.Author.Tests.{eq-eqb, eqb-true, ltb-true, lt-ltb}
 use Rattle.interrupt.specs.declared.record.InterruptRecord.{InterruptRecord}
 use Rattle.interrupt.specs.Record.{setEnabled, setPending, setActive, cancelInflight, setPriority, setTrigger, setCpuTargetMask, setOwner, setLevel, pulse, complete, deactivateInflight, held, fallsIdle}
 use Rattle.word.specs.Word.{recordOf}
@@ -73,26 +73,26 @@ module _ (v n : ℕ) where
     pub meeting : meets v n u ≡ true
 
   pub met : (u m : ℕ) → recordSlot v n ≡ recordSlot u m → Met u m
-  met u m p = record { number = number; meeting = go (leb 32 n) refl }
+  met u m p = record { number = number; meeting = go (ltb n 32) refl }
     where
       number : m ≡ n
       number = same-or m n (λ q. q) (λ d. absurd (records-apart v u n m (λ q. d (sym q)) p))
 
-      go : (b : Bool) → leb 32 n ≡ b → (b || eqb u v) ≡ true
-      go true e = refl
-      go false e = eq-eqb u v (one-vcpu u v n (recordSlot v n) (leb-false 32 n e) (inl (subst (λ (k : ℕ). recordSlot v n ≡ recordSlot u k) number p)) (inl refl))
+      go : (b : Bool) → ltb n 32 ≡ b → (not b || eqb u v) ≡ true
+      go false e = refl
+      go true e = eq-eqb u v (one-vcpu u v n (recordSlot v n) (ltb-true n 32 e) (inl (subst (λ (k : ℕ). recordSlot v n ≡ recordSlot u k) number p)) (inl refl))
 
   -- and who meets it has this slot
   pub met-slot : (u : ℕ) → meets v n u ≡ true → recordSlot v n ≡ recordSlot u n
   unfolding recordSlot
-  met-slot u e = go (leb 32 n) refl e
+  met-slot u e = go (ltb n 32) refl e
     where
-      go : (b : Bool) → leb 32 n ≡ b → (b || eqb u v) ≡ true → recordSlot v n ≡ recordSlot u n
-      go true high q = simp (le-ltb n 32 (leb-true 32 n high)) refl
-      go false high q = rw (eqb-true u v q) refl
+      go : (b : Bool) → ltb n 32 ≡ b → (not b || eqb u v) ≡ true → recordSlot v n ≡ recordSlot u n
+      go false high q = simp high refl
+      go true low q = rw (eqb-true u v q) refl
 
   pub met-there : {shape : Shape} (u : ℕ) → meets v n u ≡ true → RecordThere shape v n → RecordThere shape u n
-  met-there u e there = record { numbered = there .numbered; banked = λ low. rw (eqb-true u v (rw (lt-leb 32 n low) at e)) (there .banked low) }
+  met-there u e there = record { numbered = there .numbered; banked = λ low. rw (eqb-true u v (rw (lt-ltb n 32 low) at e)) (there .banked low) }
 
 -- a move that leaves it pending: it changes another record or spares this one, and it gives another interrupt
 abbrev pub Spares : Shape → ℕ → ℕ → Move → List ℕ → Type 0

@@ -5,6 +5,7 @@ use mathlib.Core.Bool.{Bool, true, false, not, _&&_, _||_}
 use mathlib.Core.List.{List, [], _∷_}
 use Prim.Native.Nat.{ℕ, _+_, _*_, _-_, _/_, _%_, _^_}
 use lib.Dec.{eqb, leb, ltb}
+use Rattle.interrupt.specs.Types.{isPrivateId}
 use Rattle.interrupt.specs.Record.{fallsIdle}
 use Rattle.register.specs.declared.frame.AccessWidth.{AccessWidth}
 use Rattle.register.specs.declared.ranges.BitRegister.the-variants.{Icpendr}
@@ -40,7 +41,7 @@ pends shape v n s = recordAt shape v n s .pending
 
 -- a vCPU u that meets v's number n: below 32 each vCPU has its own
 abbrev pub meets : ℕ → ℕ → ℕ → Bool
-meets v n u = leb 32 n || eqb u v
+meets v n u = not (isPrivateId (record { 0 = n })) || eqb u v
 
 -- a read of IAR or AIAR that answered x
 abbrev pub gives : ℕ → CpuInterfaceAccess → Outcome → Bool

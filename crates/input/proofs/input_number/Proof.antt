@@ -1,7 +1,7 @@
 -- `input::input_number` meets its contract. Assumes nothing.
 use mathlib.Core.Path.{sym, _∙_}
 use mathlib.Core.Bool.{and-false}
-use borrow.Author.Tests.{ltb-true, ltb-false, lt-ltb, le-ltb, le-leb, lt-leb}
+use borrow.Author.Tests.{lt-ltb, le-ltb}
 use Rattle.input.specs.Input.{inputOf}
 use borrow.Author.Needs.{needs}
 use Rattle.input.proofs.input_number.Statement.{statement}
@@ -23,14 +23,13 @@ is-sgi-requires c κs = search needs
 returns-2 : tie.Need-returns-2
 unfolding inputOf
 returns-2 c =
-    let n = c .before .before .before .before .args .number in
-    simp (lt-leb 16 n (ltb-true n 16 (sym (c .before .is-sgi .ensures) ∙ c .if2 .taken)))
+    simp (sym (c .before .is-sgi .ensures) ∙ c .if2 .taken)
 
 returns-3 : tie.Need-returns-3
 unfolding inputOf
 returns-3 c =
     let a = c .before .before .before .before .args in
-    simp (le-leb 16 (a .number) (ltb-false (a .number) 16 (sym (c .before .is-sgi .ensures) ∙ c .if2 .left)), lt-ltb (a .number) (a .shape .limit) (c .before .before .if1 .left))
+    simp (sym (c .before .is-sgi .ensures) ∙ c .if2 .left, lt-ltb (a .number) (a .shape .limit) (c .before .before .if1 .left))
 
 pub input-number-spec : {M : Type 1} → statement M
 input-number-spec = tie.close (tie.spec cast-if1 returns cast-t6 is-sgi-requires returns-2 returns-3)

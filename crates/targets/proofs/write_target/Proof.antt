@@ -2,7 +2,7 @@
 use mathlib.Core.Path.{sym, _∙_}
 use Prim.Native.Nat.{_≤_}
 use borrow.Author.Needs.{needs}
-use borrow.Author.Tests.{ltb-true, ltb-false, lt-ltb, le-ltb, le-leb, lt-leb}
+use borrow.Author.Tests.{ltb-false, lt-ltb, le-ltb}
 use Rattle.targets.specs.Targets.{writeTarget}
 use Rattle.targets.proofs.write_target.Statement.{statement}
 use Rattle.targets.proofs.write_target.Tie as tie
@@ -12,11 +12,11 @@ is-private-requires c κs = search needs
 
 returns : tie.Need-returns
 unfolding writeTarget
-returns c = simp (lt-leb 32 (c .before .before .before .args .intid .0) (ltb-true _ _ (sym (c .before .is-private .ensures) ∙ c .if1 .taken)))
+returns c = simp (sym (c .before .is-private .ensures) ∙ c .if1 .taken)
 
 returns-2 : tie.Need-returns-2
 unfolding writeTarget
-returns-2 c = simp (le-leb 32 (c .before .before .before .before .before .before .args .intid .0) (ltb-false _ _ (sym (c .before .before .before .before .is-private .ensures) ∙ c .before .before .before .if1 .left)), le-ltb _ _ (c .if2 .taken))
+returns-2 c = simp (sym (c .before .before .before .before .is-private .ensures) ∙ c .before .before .before .if1 .left, le-ltb _ _ (c .if2 .taken))
 
 existing-bits-requires : tie.Need-existing-bits-requires
 existing-bits-requires c κs = search needs
@@ -39,7 +39,7 @@ same-length c = search needs
 
 returns-3 : tie.Need-returns-3
 unfolding writeTarget
-returns-3 c = simp (le-leb 32 (c .before .before .before .before .before .before .before .before .before .before .before .before .before .before .args .intid .0) (ltb-false _ _ (sym (c .before .before .before .before .before .before .before .before .before .before .before .before .is-private .ensures) ∙ c .before .before .before .before .before .before .before .before .before .before .before .if1 .left)), lt-ltb _ _ (c .before .before .before .before .before .before .before .before .if2 .left)) (c .before .before .put-record .ensures ∙ simp (c .before .before .before .before .set-cpu-target-mask .ensures, c .before .before .before .before .before .«record» .ensures, c .before .before .before .before .before .before .before .existing-bits .ensures))
+returns-3 c = simp (sym (c .before .before .before .before .before .before .before .before .before .before .before .before .is-private .ensures) ∙ c .before .before .before .before .before .before .before .before .before .before .before .if1 .left, lt-ltb _ _ (c .before .before .before .before .before .before .before .before .if2 .left)) (c .before .before .put-record .ensures ∙ simp (c .before .before .before .before .set-cpu-target-mask .ensures, c .before .before .before .before .before .«record» .ensures, c .before .before .before .before .before .before .before .existing-bits .ensures))
 
 pub write-target-spec : {M : Type 1} → statement M
 write-target-spec =
