@@ -86,7 +86,7 @@ valueOf (Value x) = x
 valueOf StackFull = 0
 
 -- words that hold a state; the vCPU is looked up only while the Distributor is on
-pub record Acknowledging (shape : Shape) (v : ℕ) (s : List ℕ) : Type 0 where
+pub record MayAcknowledge (shape : Shape) (v : ℕ) (s : List ℕ) : Type 0 where
   pub state : Room shape s
   pub served : enabledAt shape s ≡ true → Served shape v s
 

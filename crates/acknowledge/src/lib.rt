@@ -2,10 +2,10 @@
 ghost use mathlib.Core.Path.{_≡_};
 ghost use Prim.Native.Nat.{_+_, _*_, _<_};
 ghost use Rattle.state.specs.Layout.{Sources};
-ghost use Rattle.state.specs.Words.{Reached, Holds, changed, withSources};
+ghost use Rattle.state.specs.Words.{Reached, HoldsSlot, changed, withSources};
 ghost use Rattle.select.specs.declared.Selected.the-variants.{Best};
 ghost use Rattle.service.specs.Service.{Served};
-ghost use Rattle.acknowledge.specs.Acknowledge.{preempting, offer, lowestSource, sourceOf, pendIfLeft, sourceTaken, givenRecord, given, answered, taken, acknowledge, acknowledged, Acknowledging, Givable};
+ghost use Rattle.acknowledge.specs.Acknowledge.{preempting, offer, lowestSource, sourceOf, pendIfLeft, sourceTaken, givenRecord, given, answered, taken, acknowledge, acknowledged, MayAcknowledge, Givable};
 use interrupt::GicVcpuId;
 use interrupt::IntId;
 use interrupt::InterruptRecord;
@@ -87,7 +87,7 @@ fn sgi_source(words: &[u32], shape: Shape, vcpu: GicVcpuId, intid: IntId) -> Gic
 }
 
 fn leave_sources(words: &mut [u32], shape: Shape, vcpu: GicVcpuId, sgi: IntId, sources: u8)
-    requires { ⌜ Holds shape (Sources (vcpu .0) (sgi .0)) (now words) ⌝ }
+    requires { ⌜ HoldsSlot shape (Sources (vcpu .0) (sgi .0)) (now words) ⌝ }
     ensures { λ r. ⌜ now (words .exit) ≡ pendIfLeft shape (vcpu .0) (sgi .0) (withSources shape (vcpu .0) (sgi .0) sources (now (words .entry))) ⌝ }
 {
     put_sgi_sources(words, shape, vcpu, sgi, sources);
@@ -163,7 +163,7 @@ fn take_pending_delivery(words: &mut [u32], shape: Shape, vcpu: GicVcpuId) -> Re
 
 // While the Distributor is off, the vCPU need not exist.
 pub fn acknowledge_v2(words: &mut [u32], shape: Shape, vcpu: GicVcpuId) -> Read
-    requires { ⌜ Acknowledging shape (vcpu .0) (now words) ⌝ }
+    requires { ⌜ MayAcknowledge shape (vcpu .0) (now words) ⌝ }
     ensures { λ r. ⌜ (r ≡ acknowledge shape (vcpu .0) (now (words .entry))) × (now (words .exit) ≡ acknowledged shape (vcpu .0) (now (words .entry))) ⌝ }
 {
     if distributor_enabled(words, shape) {

@@ -24,7 +24,7 @@ use Rattle.state.proofs.Accessors.{record-exists, record-same}
 use Rattle.state.proofs.Numbers.{Of, if-local, changed-local, run-written, run-others}
 use Rattle.state.proofs.Steps.{Agree, Local, steps-room}
 use Rattle.state.proofs.Tests.{left-true}
-use Rattle.bits.specs.Bits.{fieldBits, perWord, readNumber, readBits, acts, clearActive, act, writeNumber, writeBits, WordAt}
+use Rattle.bits.specs.Bits.{fieldBits, perWord, readNumber, readBits, acts, clearActive, act, writeNumber, writeBits, BitWordAt}
 use Rattle.bits.proofs.BitLaws.{number-below}
 
 -- bit i of what is read is the record's bit
@@ -57,7 +57,7 @@ act-in-range Isactiver x r h = record { priority-byte = h .priority-byte; mask-b
 act-in-range Icactiver x r h = cleared-in-range r h
 act-in-range Icfgr x r h = record { priority-byte = h .priority-byte; mask-byte = h .mask-byte; owner-byte = h .owner-byte }
 
-module _ (shape : Shape) (register : BitRegister) (v first value : ℕ) (s : List ℕ) (at : WordAt shape register v first s) where
+module _ (shape : Shape) (register : BitRegister) (v first value : ℕ) (s : List ℕ) (at : BitWordAt shape register v first s) where
   exists : (i : ℕ) → first + i < shape .limit → Exists shape (recordSlot v (first + i))
   exists i h = record-exists shape v (first + i) (record { numbered = h; banked = λ b. at .banked (omega arith) })
 

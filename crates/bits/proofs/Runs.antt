@@ -16,7 +16,7 @@ use Rattle.state.specs.Loop.{upTo}
 use Rattle.state.specs.Words.{recordSlot}
 use Rattle.state.proofs.Accessors.{record-run}
 use Rattle.word.specs.Fields.{fieldAt, gathered}
-use Rattle.bits.specs.Bits.{isConfig, fieldBits, perWord, readNumber, readBits, writeNumber, writeBits, WordAt}
+use Rattle.bits.specs.Bits.{isConfig, fieldBits, perWord, readNumber, readBits, writeNumber, writeBits, BitWordAt}
 use Rattle.bits.specs.Run.{Existing, fieldIn, writeRecord, writeIn}
 use Rattle.word.proofs.Gathered.{gathered-idle, gathered-same, gathered-fits}
 use Rattle.state.proofs.Steps.{up-idle, up-same}
@@ -36,7 +36,7 @@ unfolding gathered
 run-fits register base s i h =
     gathered-fits (fieldBits register) (fieldIn register base s) (λ j. field-below register (recordOf (getD s (base + j) 0))) (suc i) 32 (word-room register i h)
 
-module _ (shape : Shape) (register : BitRegister) (v first there : ℕ) (s : List ℕ) (at : WordAt shape register v first s) (e : Existing (shape .limit) first (perWord register) there) where
+module _ (shape : Shape) (register : BitRegister) (v first there : ℕ) (s : List ℕ) (at : BitWordAt shape register v first s) (e : Existing (shape .limit) first (perWord register) there) where
   pub run-inside : place shape (recordSlot v first) + there ≤ size shape
   unfolding recordSlot
   run-inside = go (ltb first 32) refl

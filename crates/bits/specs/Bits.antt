@@ -89,7 +89,7 @@ unfoldable pub writeBits : Shape → BitRegister → ℕ → ℕ → ℕ → Lis
 writeBits shape register v first value s = upTo (λ i. writeNumber shape register v (first + i) (fieldAt (fieldBits register) i value)) (perWord register) s
 
 -- a word of a bit register: where its numbers are private they all are, and the vCPU exists
-pub record WordAt (shape : Shape) (register : BitRegister) (v first : ℕ) (s : List ℕ) : Type 0 where
+pub record BitWordAt (shape : Shape) (register : BitRegister) (v first : ℕ) (s : List ℕ) : Type 0 where
   pub state : Room shape s
   pub together : first < 32 → first + perWord register ≤ 32
   pub banked : first < 32 → v < shape .count

@@ -6,7 +6,7 @@ ghost use Rattle.interrupt.specs.Record.{setTrigger};
 ghost use Rattle.word.specs.Word.{triggerOf};
 ghost use Rattle.state.specs.Loop.{upTo};
 ghost use Rattle.word.specs.Fields.{fieldAt, gathered};
-ghost use Rattle.bits.specs.Bits.{isConfig, fieldBits, perWord, readBits, acts, clearActive, act, writeBits, WordAt};
+ghost use Rattle.bits.specs.Bits.{isConfig, fieldBits, perWord, readBits, acts, clearActive, act, writeBits, BitWordAt};
 ghost use Rattle.bits.specs.Run.{Existing, FieldShift, RunAt, flagPlace, flagWeight, shown, fieldIn, writeRecord, writeIn};
 use interrupt::GicVcpuId;
 use interrupt::IntId;
@@ -139,7 +139,7 @@ pub fn read_bits(
     register: BitRegister,
     first: IntId,
 ) -> u32
-    requires { ⌜ WordAt shape register (vcpu .0) (first .0) (now words) ⌝ }
+    requires { ⌜ BitWordAt shape register (vcpu .0) (first .0) (now words) ⌝ }
     ensures { λ r. ⌜ r ≡ readBits shape register (vcpu .0) (first .0) (now (words .entry)) ⌝ }
 {
     if shape.limit <= first.0 {
@@ -245,7 +245,7 @@ pub fn write_bits(
     first: IntId,
     value: u32,
 )
-    requires { ⌜ WordAt shape register (vcpu .0) (first .0) (now words) ⌝ }
+    requires { ⌜ BitWordAt shape register (vcpu .0) (first .0) (now words) ⌝ }
     ensures { λ r. ⌜ now (words .exit) ≡ writeBits shape register (vcpu .0) (first .0) value (now (words .entry)) ⌝ }
 {
     if shape.limit <= first.0 {

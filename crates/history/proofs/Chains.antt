@@ -26,7 +26,7 @@ use Rattle.state.specs.Loop.{upTo}
 use Rattle.state.specs.Words.{RecordThere, recordAt, withRecord, changed, sourcesAt, withSources}
 use Rattle.state.proofs.Accessors.{sources-same}
 use Rattle.state.proofs.Tests.{left-true, right-true, not-below}
-use Rattle.bits.specs.Bits.{fieldBits, perWord, acts, act, clearActive, writeNumber, writeBits, WordAt}
+use Rattle.bits.specs.Bits.{fieldBits, perWord, acts, act, clearActive, writeNumber, writeBits, BitWordAt}
 use Rattle.targets.specs.Targets.{existingBits, writeTarget}
 use Rattle.sgi.specs.Sgi.{mergedSources, writeSources, sourced, pendSgi, includes, sgiTarget, sentTo, sendSgi, writeSgir}
 use Rattle.sgi.proofs.Rings.{joined-some, merged-fits}
@@ -132,7 +132,7 @@ byte-chain shape Spendsgir v n byte at b r h may = sources-chain shape v n (at .
 
 -- an accepted write to the Distributor
 module _ (shape : Shape) (v : ℕ) (width : AccessWidth) (value : ℕ) (s : List ℕ) (h : Sound shape s) where
-  bits-chain : (register : BitRegister) (first : ℕ) → WordAt shape register v first s → Chain shape (BitMade register v first value) s (writeBits shape register v first value s)
+  bits-chain : (register : BitRegister) (first : ℕ) → BitWordAt shape register v first s → Chain shape (BitMade register v first value) s (writeBits shape register v first value s)
   unfolding writeBits writeNumber
   bits-chain register first at =
       each-chain (λ i. writeNumber shape register v (first + i) (x i)) (perWord register)

@@ -1,9 +1,11 @@
 -- The mission, demand 1: "A refusal returns its number, value 0, an empty wake set and no retirement, and the lent state is unchanged." Assumes
 -- nothing.
-use mathlib.Core.Path.{_≡_, refl}
-use mathlib.Core.Bool.{false, true, true≢false}
-use mathlib.Core.List.{List}
+use mathlib.Core.Path.{_≡_, refl, sym, _∙_}
+use mathlib.Core.Bool.{Bool, false, true, _||_, true≢false}
+use mathlib.Core.List.{List, _∷_}
 use Prim.Native.Nat.{ℕ}
+use lib.Dec.{eqb}
+use borrow.Author.Tests.{eq-eqb}
 use Rattle.register.specs.declared.frame.Refusal.{Refusal}
 use Rattle.register.specs.declared.frame.Refusal.the-variants as refusal
 use Rattle.register.specs.Frame.{refusalNumber}
@@ -55,3 +57,11 @@ every-refusal c s =
     (λ v n asserted there past. accepted s refl)
     (λ v n there past. accepted s refl)))
     c
+
+-- "each public call ends with a defined answer": accepted, or refused by one of the numbers that document 01 has for it
+pub every-answer : (c : Call) (s : List ℕ) → listed (called c s .refusal) (0 ∷ refusals c) ≡ true
+every-answer c s = go (eqb (called c s .refusal) 0) refl
+  where
+    go : (b : Bool) → eqb (called c s .refusal) 0 ≡ b → (b || listed (called c s .refusal) (refusals c)) ≡ true
+    go true e = refl
+    go false e = every-refusal c s (λ p. true≢false (sym (eq-eqb (called c s .refusal) 0 p) ∙ e)) .number

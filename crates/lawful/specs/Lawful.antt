@@ -13,7 +13,7 @@ use Rattle.interrupt.specs.declared.record.Owner.the-variants.{Nobody, Vcpu}
 use Rattle.interrupt.specs.declared.types.TriggerMode.the-variants.{Edge}
 use Rattle.word.specs.Word.{maskByte}
 use Rattle.state.specs.declared.layout.Shape.{Shape}
-use Rattle.state.specs.Lent.{Held}
+use Rattle.state.specs.Lent.{HoldsState}
 use Rattle.state.specs.Words.{RecordThere, recordAt, sourcesAt, entryAt, Canonical}
 use Rattle.service.specs.Service.{depthAt}
 
@@ -65,7 +65,7 @@ pub record Lawful (shape : Shape) (s : List ℕ) : Type 0 where
   -- "stack numbers lie below the limit;
   pub numbered : (v i : ℕ) → v < shape .count → i < depthAt shape v s → entryAt shape v i s .intid .0 < shape .limit
   -- every field is in 01's range": the stored count, limit and depths; any other word decodes to a field in its range
-  pub in-range : Held shape s
+  pub in-range : HoldsState shape s
 
 -- words that hold a controller of this shape: a lawful state, written as we write it
 pub record Controls (shape : Shape) (s : List ℕ) : Type 0 where

@@ -29,7 +29,7 @@ use Rattle.register.proofs.Ways.{isSingle, each-access}
 use Rattle.register.proofs.Reach.{reach, numbers, reach-bound}
 use Rattle.state.specs.declared.layout.Shape.{Shape}
 use Rattle.state.specs.Layout.{Room}
-use Rattle.bits.specs.Bits.{perWord, WordAt}
+use Rattle.bits.specs.Bits.{perWord, BitWordAt}
 use Rattle.distributor.specs.Bytes.{ByteThere, BytesAt}
 use Rattle.places.specs.Places.{byteLooksUp, Located}
 
@@ -135,7 +135,7 @@ module _ (shape : Shape) (v : ℕ) (p : Place) (w : AccessWidth) (s : List ℕ) 
       dword : bytes w ≡ 4
       dword = dword-bytes w (subst (λ (c : Class). WidthFits c w) e (placement .width-fits))
 
-  pub bit-word : (register : BitRegister) → p .class ≡ Bits register → (p .private ≡ true → v < shape .count) → WordAt shape register v (p .first .0) s
+  pub bit-word : (register : BitRegister) → p .class ≡ Bits register → (p .private ≡ true → v < shape .count) → BitWordAt shape register v (p .first .0) s
   bit-word register e looked = record {
     state = h;
     together = λ low. private-word register e (own (Bits register) e refl low);

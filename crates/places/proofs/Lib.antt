@@ -1,3 +1,4 @@
 -- Laws that belong to no one function.
 pub mod Fits
+pub mod LookUps
 pub mod Sounds

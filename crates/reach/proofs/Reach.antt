@@ -11,7 +11,7 @@ use Rattle.state.specs.declared.layout.Shape.{Shape}
 use Rattle.state.specs.declared.lent.Limited.{Limited}
 use Rattle.state.specs.declared.lent.Limited.the-variants.{Within, Outside}
 use Rattle.state.specs.Layout.{size}
-use Rattle.state.specs.Lent.{shaped, limited, storedShape, Held}
+use Rattle.state.specs.Lent.{shaped, limited, storedShape, HoldsState}
 use Rattle.state.proofs.Places.{size-bound}
 use Rattle.state.proofs.Tests.{left-true, right-true}
 use Rattle.state.proofs.Validated.{limited-shape, limited-limits, limits-limited}
@@ -57,7 +57,7 @@ module _ (cs : List Call) (others : noSetup cs ≡ true) (s : List ℕ) where
   past-never-read r = calls-never-read (storedExtent s) cs s r (no-setup-reach (storedExtent s) cs others s (omega arith))
 
 -- a setup that is accepted, and such calls after it
-held-stored : (shape : Shape) (s : List ℕ) → Held shape s → storedShape s ≡ Within shape
+held-stored : (shape : Shape) (s : List ℕ) → HoldsState shape s → storedShape s ≡ Within shape
 held-stored shape s h =
     let c : getD s 0 0 ≡ shape .count = ap (λ (t : Shape). t .count) (sym (h .stored)) in
     let l : getD s 1 0 ≡ shape .limit = ap (λ (t : Shape). t .limit) (sym (h .stored)) in
@@ -95,3 +95,10 @@ extent-bound c s =
 pub largest-reach : (cs : List Call) (s : List ℕ) → ReachAtMost 3447 cs s
 largest-reach [] s = tt
 largest-reach (c ∷ cs) s = (extent-bound c s, largest-reach cs (called c s .state))
+
+-- so of any history at all, setups in it or not
+pub largest-unwritten : (cs : List Call) (s : List ℕ) → drop 3447 (run cs s) ≡ drop 3447 s
+largest-unwritten cs s = calls-never-write 3447 cs s (largest-reach cs s)
+
+pub largest-unread : (cs : List Call) (s r : List ℕ) → take 3447 s ≡ take 3447 r → SameFront 3447 cs s r
+largest-unread cs s r = calls-never-read 3447 cs s r (largest-reach cs s)

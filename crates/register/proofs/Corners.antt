@@ -12,7 +12,7 @@ use Rattle.register.specs.declared.distributor.DistributorAccess.the-var
 use Rattle.register.specs.CpuInterface.{registers, registerIn, registerAt, locateCpuInterface, interfaceRefusal}
 use Rattle.register.specs.Distributor.{firstNumber, isPrivate, placeAt, unfit, single, bitWord, byteArray, locateInFrame, locateDistributor, distributorRefusal}
 use Rattle.register.specs.Ranges.{ranges, rangeIn, rangeAt}
-use Rattle.register.proofs.Table.{every, tabulate}
+use Rattle.register.proofs.Table.{every, tabulate, passing}
 
 -- an access to the Distributor by a vCPU that exists, by one that does not, and an access to a CPU interface
 abbrev there : ℕ → AccessWidth → ℕ
@@ -86,18 +86,14 @@ pub corners-right : T (every right 0 corners)
 unfolding corners distributorRefusal locateDistributor locateInFrame single bitWord byteArray unfit placeAt isPrivate firstNumber rangeAt rangeIn ranges interfaceRefusal locateCpuInterface registerAt registerIn registers
 corners-right = tt
 
--- "Private registers are the first of each bit range, ICFGR's first two and priority bytes 0 to 31": a byte access at any offset of the
--- frame looks up its vCPU for these and for no others
-abbrev looksUp : DistributorAccess → Bool
-looksUp (Refused r) = false
-looksUp PrivateWidth = true
-looksUp (At place) = place .private
+-- "Private registers are the first of each bit range, ICFGR's first two and priority bytes 0 to 31": the map takes a byte
+-- access at these offsets of the frame for one to a private register, and at no others
+abbrev mapsPrivate : DistributorAccess → Bool
+mapsPrivate (Refused r) = false
+mapsPrivate PrivateWidth = true
+mapsPrivate (At place) = place .private
 
-abbrev where-passed : (ℕ → Bool) → ℕ → ℕ → List ℕ
-where-passed f k zero = []
-where-passed f k (suc n) = cond (f k) (k ∷ where-passed f (suc k) n) (where-passed f (suc k) n)
-
-pub private-registers : where-passed (λ (offset : ℕ). looksUp (locateDistributor offset Byte)) 0 0x1000
+pub private-registers : passing (λ (offset : ℕ). mapsPrivate (locateDistributor offset Byte)) 0 0x1000
     ≡ 0x080 ∷ 0x100 ∷ 0x180 ∷ 0x200 ∷ 0x280 ∷ 0x300 ∷ 0x380 ∷ (tabulate (λ (k : ℕ). 0x400 + k) 0 32 ++ 0xc00 ∷ 0xc04 ∷ [])
 unfolding locateDistributor locateInFrame single bitWord byteArray unfit placeAt isPrivate firstNumber rangeAt rangeIn ranges
 private-registers = refl

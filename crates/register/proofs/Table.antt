@@ -1,6 +1,6 @@
 -- A rule of a list, proved at all of its entries by one test that is computed, one entry after the other. Assumes nothing.
 use mathlib.Core.Path.{_≡_, _∙_, refl, ap, subst, sym}
-use mathlib.Core.Bool.{Bool, true, _&&_}
+use mathlib.Core.Bool.{Bool, true, cond, _&&_}
 use mathlib.Core.List.{List, [], _∷_}
 use Prim.Native.Nat.{ℕ, zero, suc, _+_, _<_}
 use native.Mathlib.Nat.{add-zero, zero-add, add-suc, suc-add, le-of-suc-le-suc, not-suc-le-zero}
@@ -38,3 +38,8 @@ pub getD-tabulate {ℓ} : {A : Type ℓ} (f : ℕ → A) (i n k : ℕ) (d : A) �
 getD-tabulate f i zero k d h = absurd (not-suc-le-zero h)
 getD-tabulate f i (suc n) zero d h = ap f (sym (add-zero i))
 getD-tabulate f i (suc n) (suc k) d h = getD-tabulate f (suc i) n k d (le-of-suc-le-suc h) ∙ ap f (suc-add i k ∙ sym (add-suc i k))
+
+-- of n numbers from k up, those that pass the test
+abbrev pub passing : (ℕ → Bool) → ℕ → ℕ → List ℕ
+passing f k zero = []
+passing f k (suc n) = cond (f k) (k ∷ passing f (suc k) n) (passing f (suc k) n)

@@ -10,11 +10,11 @@ use lib.Dec.{eqb, ltb}
 use lib.ListN.{length, getD, take, set, take-append-drop}
 use lib.Seq.{slice, slice-empty, take-take, take-suc, take-suc-set, length-take-le, drop-append-le}
 use borrow.Author.Tests.{lt-ltb, le-ltb, eq-eqb, ne-eqb, ltb-true, ltb-false}
-use Rattle.script.specs.Text.{Put}
+use Rattle.script.specs.Text.{PutText}
 use Rattle.runner.specs.declared.blocks.Progress.{Progress}
 use Rattle.script.proofs.Puts.{put-then}
 use Rattle.runner.specs.Runner.{lineAnswer, Prints}
-use Rattle.runner.specs.Feeding.{Run, keptLine, textThen, ran, restPrinted, Went, Ran, Fed}
+use Rattle.runner.specs.Feeding.{FeedState, keptLine, textThen, ran, restPrinted, BytesRun, Ran, Fed}
 
 pub ran-append : (a b line s : List ℕ) → ran (a ++ b) line s ≡ textThen (ran a line s .text) (ran b (ran a line s .line) (ran a line s .state))
 unfolding ran
@@ -31,7 +31,7 @@ ran-append (c ∷ a) b line s = go (eqb c 10) (ran-append a b [] (lineAnswer lin
     go true answered same = rw answered (simp append-assoc)
     go false answered same = same
 
-put-none : (at : ℕ) (out : List ℕ) → at ≤ length out → Put [] at out out at
+put-none : (at : ℕ) (out : List ℕ) → at ≤ length out → PutText [] at out out at
 put-none at out h = record { fits = omega arith; bytes = refl; past = omega arith }
 
 run-newline : (b : ℕ) (line s : List ℕ) → b ≡ 10
@@ -45,29 +45,29 @@ run-byte b line s e = simp (ne-eqb b 10 e)
 
 module _ (n : ℕ) (line words : List ℕ) where
   -- by what the bytes come to
-  went-as : {bytes : List ℕ} {n' : ℕ} {line' words' : List ℕ} (r : Run) → ran bytes (take n line) words ≡ r → n' ≤ 81 → take n' line' ≡ r .line → words' ≡ r .state
-      → Went bytes n line words n' line' words'
-  went-as r e h l w = record { within = h; partial = l ∙ sym (ap (λ (x : Run). x .line) e); state = w ∙ sym (ap (λ (x : Run). x .state) e) }
+  went-as : {bytes : List ℕ} {n' : ℕ} {line' words' : List ℕ} (r : FeedState) → ran bytes (take n line) words ≡ r → n' ≤ 81 → take n' line' ≡ r .line → words' ≡ r .state
+      → BytesRun bytes n line words n' line' words'
+  went-as r e h l w = record { within = h; partial = l ∙ sym (ap (λ (x : FeedState). x .line) e); state = w ∙ sym (ap (λ (x : FeedState). x .state) e) }
 
-  pub went-none : n ≤ 81 → Went [] n line words n line words
+  pub went-none : n ≤ 81 → BytesRun [] n line words n line words
   unfolding ran
   went-none h = record { within = h; partial = refl; state = refl }
 
   -- the bytes b after a
-  both : {a : List ℕ} (b : List ℕ) {n' : ℕ} {line' words' : List ℕ} → Went a n line words n' line' words'
+  both : {a : List ℕ} (b : List ℕ) {n' : ℕ} {line' words' : List ℕ} → BytesRun a n line words n' line' words'
       → ran (a ++ b) (take n line) words ≡ textThen (ran a (take n line) words .text) (ran b (take n' line') words')
   both {a} b p = ran-append a b (take n line) words ∙ rw (p .partial, p .state)
 
   pub went-then : {a b : List ℕ} {n' n'' : ℕ} {line' words' line'' words'' : List ℕ}
-      → Went a n line words n' line' words' → Went b n' line' words' n'' line'' words'' → Went (a ++ b) n line words n'' line'' words''
+      → BytesRun a n line words n' line' words' → BytesRun b n' line' words' n'' line'' words'' → BytesRun (a ++ b) n line words n'' line'' words''
   went-then {b} p q = went-as _ (both b p) (q .within) (q .partial) (q .state)
 
 module _ (n : ℕ) (line words : List ℕ) (at : ℕ) (out : List ℕ) where
-  ran-as : {bytes : List ℕ} {n' at' : ℕ} {line' words' out' : List ℕ} (r : Run) → ran bytes (take n line) words ≡ r
-      → n' ≤ 81 → take n' line' ≡ r .line → words' ≡ r .state → Put (r .text) at out out' at' → Ran bytes n line words at out n' line' words' at' out'
+  ran-as : {bytes : List ℕ} {n' at' : ℕ} {line' words' out' : List ℕ} (r : FeedState) → ran bytes (take n line) words ≡ r
+      → n' ≤ 81 → take n' line' ≡ r .line → words' ≡ r .state → PutText (r .text) at out out' at' → Ran bytes n line words at out n' line' words' at' out'
   ran-as {at'} {out'} r e h l w p = record {
     went = went-as n line words r e h l w;
-    put = subst (λ (t : List ℕ). Put t at out out' at') (sym (ap (λ (x : Run). x .text) e)) p;
+    put = subst (λ (t : List ℕ). PutText t at out out' at') (sym (ap (λ (x : FeedState). x .text) e)) p;
   }
 
   pub ran-none : n ≤ 81 → at ≤ length out → Ran [] n line words at out n line words at out

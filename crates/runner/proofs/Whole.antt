@@ -10,9 +10,9 @@ use lib.ListN.{length, take, drop, length-append}
 use lib.Seq.{slice, sets-eq, length-take-le, take-all, take-append-le, take-append-seam}
 use borrow.Author.Tests.{lt-ltb, lt-leb, ltb-true, ltb-false}
 use Rattle.script.specs.Line.{requestOf}
-use Rattle.script.specs.Text.{Put}
+use Rattle.script.specs.Text.{PutText}
 use Rattle.runner.specs.Runner.{Printed, requestPrinted, lineAnswer, textFirst, linesPrinted, linesAfter, printed, Prints}
-use Rattle.runner.specs.Feeding.{Run, keptLine, textThen, ran, restPrinted, Turns, unfed, fedOn}
+use Rattle.runner.specs.Feeding.{FeedState, keptLine, textThen, ran, restPrinted, Turns, unfed, fedOn}
 use Rattle.runner.proofs.Running.{ran-append}
 
 -- one way or the other
@@ -56,7 +56,7 @@ rest line s = rw (begun-kept line, answer-kept line s) (go (ltb 0 (length line))
     go false = refl
 
 -- what a run prints, with its rest
-abbrev ended : Run → Printed
+abbrev ended : FeedState → Printed
 ended r = textFirst (r .text) (restPrinted (r .line) (r .state))
 
 line-by-line : (input line s : List ℕ) → ended (ran input (take 81 line) s) ≡ linesPrinted (linesAfter line input) s
@@ -77,7 +77,7 @@ line-by-line (b ∷ bs) line s =
     go true next more = rw append-assoc (ap (textFirst text) next)
     go false next more = more
 
-put-text : {x s s' : List ℕ} {end : ℕ} → Put x 0 s s' end → take end s' ≡ x
+put-text : {x s s' : List ℕ} {end : ℕ} → PutText x 0 s s' end → take end s' ≡ x
 put-text {x} {s} p = rw (p .past, p .bytes, sets-eq x s 0 (p .fits)) (simp zero-add (take-append-seam x (drop (length x) s)))
 
 turns-ran : {words bytes text : List ℕ} {n : ℕ} {line words' : List ℕ} → Turns words bytes text n line words'

@@ -10,7 +10,7 @@ use lib.ListN.{length, take}
 use lib.Seq.{slice}
 use Rattle.answer.specs.declared.Answer.{Answer}
 use Rattle.answer.specs.Answer.{refusalIn, valueIn, wakeIn, retiredIn}
-use Rattle.script.specs.Text.{answerText, Put}
+use Rattle.script.specs.Text.{answerText, PutText}
 use Rattle.runner.specs.declared.blocks.Progress.{Progress}
 use Rattle.runner.specs.Runner.{Printed, lineAnswer, Prints}
 
@@ -18,7 +18,7 @@ abbrev pub textOf : Answer → List ℕ
 textOf a = answerText (refusalIn a) (valueIn a) (wakeIn a) (retiredIn a)
 
 -- what is printed, the line that has begun, and the words
-pub record Run : Type 0 where
+pub record FeedState : Type 0 where
   pub text : List ℕ
   pub line : List ℕ
   pub state : List ℕ
@@ -27,11 +27,11 @@ pub record Run : Type 0 where
 abbrev pub keptLine : List ℕ → ℕ → List ℕ
 keptLine line b = cond (ltb (length line) 81) (line ++ b ∷ []) line
 
-abbrev pub textThen : List ℕ → Run → Run
+abbrev pub textThen : List ℕ → FeedState → FeedState
 textThen text run = record { text = text ++ run .text; line = run .line; state = run .state }
 
 -- the bytes, after a line that has begun
-unfoldable pub ran : List ℕ → List ℕ → List ℕ → Run
+unfoldable pub ran : List ℕ → List ℕ → List ℕ → FeedState
 ran [] line s = record { text = []; line = line; state = s }
 ran (b ∷ bs) line s =
     cond (eqb b 10) (textThen (lineAnswer line s .text) (ran bs [] (lineAnswer line s .state))) (ran bs (keptLine line b) s)
@@ -46,20 +46,20 @@ pub record Begun (n : ℕ) (line : List ℕ) : Type 0 where
   pub lineRoom : 81 ≤ length line
 
 -- and room for an answer
-pub record Ready (n : ℕ) (line : List ℕ) (at : ℕ) (out : List ℕ) : Type 0 where
+pub record RoomToAnswer (n : ℕ) (line : List ℕ) (at : ℕ) (out : List ℕ) : Type 0 where
   pub begun : Begun n line
   pub room : at + 30 ≤ length out
 
 -- the bytes were run: the first n bytes of `line` are the line that has begun, before and after
-pub record Went (bytes : List ℕ) (n : ℕ) (line words : List ℕ) (n' : ℕ) (line' words' : List ℕ) : Type 0 where
+pub record BytesRun (bytes : List ℕ) (n : ℕ) (line words : List ℕ) (n' : ℕ) (line' words' : List ℕ) : Type 0 where
   pub within : n' ≤ 81
   pub partial : take n' line' ≡ ran bytes (take n line) words .line
   pub state : words' ≡ ran bytes (take n line) words .state
 
 -- and their text was put into `out` at `at`
 pub record Ran (bytes : List ℕ) (n : ℕ) (line words : List ℕ) (at : ℕ) (out : List ℕ) (n' : ℕ) (line' words' : List ℕ) (at' : ℕ) (out' : List ℕ) : Type 0 where
-  pub went : Went bytes n line words n' line' words'
-  pub put : Put (ran bytes (take n line) words .text) at out out' at'
+  pub went : BytesRun bytes n line words n' line' words'
+  pub put : PutText (ran bytes (take n line) words .text) at out out' at'
 
 -- of the input the bytes from `from` up to where it stopped were run; it stops at the end, or where no further answer fits
 pub record Fed (input : List ℕ) (from n : ℕ) (line words out : List ℕ) (r : Progress) (line' words' out' : List ℕ) : Type 0 where

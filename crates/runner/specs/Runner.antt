@@ -13,7 +13,7 @@ use Rattle.controller.specs.Start.{setup}
 use Rattle.script.specs.declared.request.Request.{Request}
 use Rattle.script.specs.declared.request.Request.the-variants.{Setup, ReadDistributor, WriteDistributor, ReadCpuInterface, WriteCpuInterface, SetLevel, Pulse, Unknown}
 use Rattle.script.specs.Line.{requestOf}
-use Rattle.script.specs.Text.{answerText, unknownText, Put}
+use Rattle.script.specs.Text.{answerText, unknownText, PutText}
 
 -- a text, and the words after it
 pub record Printed : Type 0 where
@@ -62,4 +62,4 @@ startWords n = replicate n 0
 -- a function did it: the words are these, and the text stands in `out` from `at` up to `end`
 pub record Prints (p : Printed) (at : ℕ) (words' out out' : List ℕ) (end : ℕ) : Type 0 where
   pub state : words' ≡ p .state
-  pub put : Put (p .text) at out out' end
+  pub put : PutText (p .text) at out out' end

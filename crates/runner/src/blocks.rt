@@ -3,7 +3,7 @@ ghost use mathlib.Core.List.{[], _∷_};
 ghost use Prim.Native.Nat.{_≤_};
 ghost use lib.ListN.{length, take};
 ghost use Rattle.runner.specs.Runner.{Prints};
-ghost use Rattle.runner.specs.Feeding.{restPrinted, Begun, Ready, Ran, Fed};
+ghost use Rattle.runner.specs.Feeding.{restPrinted, Begun, RoomToAnswer, Ran, Fed};
 use crate::lines::answer_line;
 
 // The bytes of a line that are kept: one more than any form has.
@@ -31,7 +31,7 @@ fn step(
     out: &mut [u8],
     at: usize,
 ) -> Place
-    requires { ⌜ Ready begun (now line) at (now out) ⌝ }
+    requires { ⌜ RoomToAnswer begun (now line) at (now out) ⌝ }
     ensures { λ r. ⌜ Ran (byte ∷ []) begun (now (line .entry)) (now (words .entry)) at (now (out .entry)) (r .length) (now (line .exit)) (now (words .exit)) (r .at) (now (out .exit)) ⌝ }
 {
     if byte == b'\n' {
@@ -85,7 +85,7 @@ pub fn feed(
 
 // The last line may lack its newline: where the input ends, a line that has begun is answered.
 pub fn feed_rest(words: &mut [u32], line: &[u8], begun: usize, out: &mut [u8]) -> usize
-    requires { ⌜ Ready begun (now line) 0 (now out) ⌝ }
+    requires { ⌜ RoomToAnswer begun (now line) 0 (now out) ⌝ }
     ensures { λ r. ⌜ Prints (restPrinted (take begun (now (line .entry))) (now (words .entry))) 0 (now (words .exit)) (now (out .entry)) (now (out .exit)) r ⌝ }
 {
     if 0 < begun {

@@ -1,7 +1,7 @@
 // A line, the call that it asks for, and the text of the answer.
 ghost use Prim.Native.Nat.{_+_, _≤_};
 ghost use lib.ListN.{length};
-ghost use Rattle.script.specs.Text.{Put};
+ghost use Rattle.script.specs.Text.{PutText};
 ghost use Rattle.runner.specs.Runner.{requestPrinted, lineAnswer, Prints};
 ghost use Rattle.runner.specs.Feeding.{textOf};
 use controller::Answer;
@@ -19,7 +19,7 @@ use script::put_unknown;
 
 fn put(out: &mut [u8], at: usize, answer: Answer) -> usize
     requires { ⌜ at + 30 ≤ length (now out) ⌝ }
-    ensures { λ r. ⌜ Put (textOf answer) at (now (out .entry)) (now (out .exit)) r ⌝ }
+    ensures { λ r. ⌜ PutText (textOf answer) at (now (out .entry)) (now (out .exit)) r ⌝ }
 {
     put_answer(
         out,

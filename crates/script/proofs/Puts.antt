@@ -11,27 +11,27 @@ use lib.ListN.{length, set, length-append}
 use lib.Seq.{sets, length-sets}
 use borrow.Author.Tests.{lt-ltb, le-ltb, le-leb, ltb-true, ltb-false}
 use Rattle.script.specs.Line.{isDigit, digitsOnly, valueAfter, isNumber, fieldNumber}
-use Rattle.script.specs.Text.{decimalWithin, decimal, Put}
+use Rattle.script.specs.Text.{decimalWithin, decimal, PutText}
 
 sets-append : (x y s : List ℕ) (i : ℕ) → sets (sets s i x) (i + length x) y ≡ sets s i (x ++ y)
 sets-append [] y s i = rw add-zero
 sets-append (a ∷ x) y s i = let e : i + suc (length x) ≡ suc i + length x = omega arith in rw e (sets-append x y (set s i a) (suc i))
 
-pub put-length : {x s s' : List ℕ} {at end : ℕ} → Put x at s s' end → length s' ≡ length s
+pub put-length : {x s s' : List ℕ} {at end : ℕ} → PutText x at s s' end → length s' ≡ length s
 put-length {x} {s} {s'} {at} p = ap length (p .bytes) ∙ length-sets s at x
 
 -- and ends in the bytes
-pub put-inside : {x s s' : List ℕ} {at end : ℕ} → Put x at s s' end → end ≤ length s
+pub put-inside : {x s s' : List ℕ} {at end : ℕ} → PutText x at s s' end → end ≤ length s
 put-inside p = let a = p .past in let b = p .fits in omega arith
 
-pub put-then : {x y s s' s'' : List ℕ} {at end end' : ℕ} → Put x at s s' end → Put y end s' s'' end' → Put (x ++ y) at s s'' end'
+pub put-then : {x y s s' s'' : List ℕ} {at end end' : ℕ} → PutText x at s s' end → PutText y end s' s'' end' → PutText (x ++ y) at s s'' end'
 put-then {x} {y} {s} {s'} {s''} {at} {end} {end'} p q = record {
   fits = let a = p .past in let b = q .fits in let same = put-length p in rw length-append (omega arith);
   bytes = q .bytes ∙ rw (p .bytes, p .past) (sets-append x y s at);
   past = let a = p .past in let b = q .past in rw length-append (omega arith);
 }
 
-pub put-one : (b : ℕ) (s : List ℕ) (at : ℕ) → at < length s → Put (b ∷ []) at s (set s at b) (at + 1)
+pub put-one : (b : ℕ) (s : List ℕ) (at : ℕ) → at < length s → PutText (b ∷ []) at s (set s at b) (at + 1)
 put-one b s at h = record { fits = omega arith; bytes = refl; past = refl }
 
 -- a tenth of a number has a digit less
@@ -82,10 +82,10 @@ unfolding decimal
 decimal-word n h = few-digits 20 9 n (omega arith)
 
 -- where a number with a byte after it ends
-pub byte-field : (n mark : ℕ) {at end : ℕ} {s s' : List ℕ} → Put (decimal n ++ mark ∷ []) at s s' end → n < 2 ^ 8 → end ≤ at + 4
+pub byte-field : (n mark : ℕ) {at end : ℕ} {s s' : List ℕ} → PutText (decimal n ++ mark ∷ []) at s s' end → n < 2 ^ 8 → end ≤ at + 4
 byte-field n mark p h = let few = decimal-byte n h in let past = p .past in let one = length-append (decimal n) (mark ∷ []) in omega arith
 
-pub word-field : (n mark : ℕ) {at end : ℕ} {s s' : List ℕ} → Put (decimal n ++ mark ∷ []) at s s' end → n < 2 ^ 32 → end ≤ at + 11
+pub word-field : (n mark : ℕ) {at end : ℕ} {s s' : List ℕ} → PutText (decimal n ++ mark ∷ []) at s s' end → n < 2 ^ 32 → end ≤ at + 11
 word-field n mark p h = let few = decimal-word n h in let past = p .past in let one = length-append (decimal n) (mark ∷ []) in omega arith
 
 -- one digit more

@@ -27,7 +27,7 @@ abbrev pub unknownText : List ℕ
 unknownText = 63 ∷ 10 ∷ []
 
 -- the whole text stands in the bytes from `at` up, and nothing else changed
-pub record Put (text : List ℕ) (at : ℕ) (before after : List ℕ) (end : ℕ) : Type 0 where
+pub record PutText (text : List ℕ) (at : ℕ) (before after : List ℕ) (end : ℕ) : Type 0 where
   pub fits : at + length text ≤ length before
   pub bytes : after ≡ sets before at text
   pub past : end ≡ at + length text

@@ -3,7 +3,7 @@ ghost use mathlib.Core.List.{[], _∷_, _++_};
 ghost use mathlib.Core.Path.{_≡_};
 ghost use Prim.Native.Nat.{_+_, _≤_, _<_};
 ghost use lib.ListN.{length};
-ghost use Rattle.script.specs.Text.{decimal, answerText, unknownText, Put};
+ghost use Rattle.script.specs.Text.{decimal, answerText, unknownText, PutText};
 
 fn digit(n: u32) -> u8
     requires { ⌜ n < 10 ⌝ }
@@ -14,7 +14,7 @@ fn digit(n: u32) -> u8
 
 fn put_decimal(out: &mut [u8], at: usize, n: u32) -> usize
     requires { ⌜ at + length (decimal n) ≤ length (now out) ⌝ }
-    ensures { λ r. ⌜ Put (decimal n) at (now (out .entry)) (now (out .exit)) r ⌝ }
+    ensures { λ r. ⌜ PutText (decimal n) at (now (out .entry)) (now (out .exit)) r ⌝ }
 {
     if n < 10 {
         out[at] = digit(n);
@@ -27,7 +27,7 @@ fn put_decimal(out: &mut [u8], at: usize, n: u32) -> usize
 
 fn put_field(out: &mut [u8], at: usize, n: u32, mark: u8) -> usize
     requires { ⌜ at + length (decimal n) < length (now out) ⌝ }
-    ensures { λ r. ⌜ Put (decimal n ++ mark ∷ []) at (now (out .entry)) (now (out .exit)) r ⌝ }
+    ensures { λ r. ⌜ PutText (decimal n ++ mark ∷ []) at (now (out .entry)) (now (out .exit)) r ⌝ }
 {
     let end = put_decimal(out, at, n);
     out[end] = mark;
@@ -44,7 +44,7 @@ pub fn put_answer(
     retired: u32,
 ) -> usize
     requires { ⌜ at + 30 ≤ length (now out) ⌝ }
-    ensures { λ r. ⌜ Put (answerText refusal value wake retired) at (now (out .entry)) (now (out .exit)) r ⌝ }
+    ensures { λ r. ⌜ PutText (answerText refusal value wake retired) at (now (out .entry)) (now (out .exit)) r ⌝ }
 {
     let second = put_field(out, at, refusal as u32, b' ');
     let third = put_field(out, second, value, b' ');
@@ -55,7 +55,7 @@ pub fn put_answer(
 // For a line of no form.
 pub fn put_unknown(out: &mut [u8], at: usize) -> usize
     requires { ⌜ at + 2 ≤ length (now out) ⌝ }
-    ensures { λ r. ⌜ Put unknownText at (now (out .entry)) (now (out .exit)) r ⌝ }
+    ensures { λ r. ⌜ PutText unknownText at (now (out .entry)) (now (out .exit)) r ⌝ }
 {
     out[at] = b'?';
     let end = at + 1;

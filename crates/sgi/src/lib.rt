@@ -3,7 +3,7 @@ ghost use mathlib.Core.Path.{_≡_};
 ghost use Prim.Native.Nat.{_<_};
 ghost use Rattle.state.specs.Layout.{Room, Sources};
 ghost use Rattle.interrupt.specs.Record.{setPending};
-ghost use Rattle.state.specs.Words.{Holds, changed};
+ghost use Rattle.state.specs.Words.{HoldsSlot, changed};
 ghost use Rattle.sgi.specs.Sgi.{sourced, mergedSources, writeSources, pendSgi, sgiTarget, includes, sentTo, sendSgi, writeSgir};
 use interrupt::GicVcpuId;
 use interrupt::IntId;
@@ -28,7 +28,7 @@ pub enum SgiTarget {
 }
 
 pub fn set_pending(words: &mut [u32], shape: Shape, vcpu: GicVcpuId, sgi: IntId, pending: bool)
-    requires { ⌜ Holds shape (Sources (vcpu .0) (sgi .0)) (now words) ⌝ }
+    requires { ⌜ HoldsSlot shape (Sources (vcpu .0) (sgi .0)) (now words) ⌝ }
     ensures { λ r. ⌜ now (words .exit) ≡ changed shape (vcpu .0) (sgi .0) (λ q. setPending q pending) (now (words .entry)) ⌝ }
 {
     let changed = record(words, shape, vcpu, sgi).set_pending(pending);
@@ -36,7 +36,7 @@ pub fn set_pending(words: &mut [u32], shape: Shape, vcpu: GicVcpuId, sgi: IntId,
 }
 
 fn put_sources(words: &mut [u32], shape: Shape, vcpu: GicVcpuId, sgi: IntId, sources: u8)
-    requires { ⌜ Holds shape (Sources (vcpu .0) (sgi .0)) (now words) ⌝ }
+    requires { ⌜ HoldsSlot shape (Sources (vcpu .0) (sgi .0)) (now words) ⌝ }
     ensures { λ r. ⌜ now (words .exit) ≡ sourced shape (vcpu .0) (sgi .0) sources (now (words .entry)) ⌝ }
 {
     put_sgi_sources(words, shape, vcpu, sgi, sources);
@@ -58,7 +58,7 @@ pub fn write_sgi_sources(
     mask: u8,
     set: bool,
 )
-    requires { ⌜ Holds shape (Sources (vcpu .0) (sgi .0)) (now words) ⌝ }
+    requires { ⌜ HoldsSlot shape (Sources (vcpu .0) (sgi .0)) (now words) ⌝ }
     ensures { λ r. ⌜ now (words .exit) ≡ writeSources shape (vcpu .0) (sgi .0) «set» mask (now (words .entry)) ⌝ }
 {
     if mask == 0 {
@@ -69,7 +69,7 @@ pub fn write_sgi_sources(
 }
 
 pub fn pend_sgi(words: &mut [u32], shape: Shape, vcpu: GicVcpuId, source: GicVcpuId, sgi: IntId)
-    requires { ⌜ (Holds shape (Sources (vcpu .0) (sgi .0)) (now words)) × (source .0 < 8) ⌝ }
+    requires { ⌜ (HoldsSlot shape (Sources (vcpu .0) (sgi .0)) (now words)) × (source .0 < 8) ⌝ }
     ensures { λ r. ⌜ now (words .exit) ≡ pendSgi shape (vcpu .0) (source .0) (sgi .0) (now (words .entry)) ⌝ }
 {
     let sources = sgi_sources(words, shape, vcpu, sgi) | vcpu_bit(source);
@@ -110,7 +110,7 @@ fn send_to(
     sgi: IntId,
     vcpu: GicVcpuId,
 )
-    requires { ⌜ (Holds shape (Sources (vcpu .0) (sgi .0)) (now words)) × (source .0 < 8) ⌝ }
+    requires { ⌜ (HoldsSlot shape (Sources (vcpu .0) (sgi .0)) (now words)) × (source .0 < 8) ⌝ }
     ensures { λ r. ⌜ now (words .exit) ≡ sentTo shape target (source .0) (sgi .0) (vcpu .0) (now (words .entry)) ⌝ }
 {
     if target.includes(source, vcpu) {
@@ -119,7 +119,7 @@ fn send_to(
 }
 
 pub fn send_sgi(words: &mut [u32], shape: Shape, source: GicVcpuId, sgi: IntId, target: SgiTarget)
-    requires { ⌜ Holds shape (Sources (source .0) (sgi .0)) (now words) ⌝ }
+    requires { ⌜ HoldsSlot shape (Sources (source .0) (sgi .0)) (now words) ⌝ }
     ensures { λ r. ⌜ now (words .exit) ≡ sendSgi shape (source .0) (sgi .0) target (now (words .entry)) ⌝ }
 {
     let count = shape.count;

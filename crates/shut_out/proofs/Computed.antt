@@ -12,7 +12,7 @@ use Rattle.answer.specs.Answer.{Outcome, gave}
 use Rattle.history.specs.History.{Call, Setup, ReadDistributor, WriteDistributor, WriteCpuInterface, called, iarRead}
 use Rattle.corners.specs.Corners.{zeros}
 use Rattle.corners.proofs.Started.{started, setup-started, computing}
-use Rattle.shut_out.specs.ShutOut.{Behaviour, admitted, Meets, behaved, History, wordsAfter, Frame, Distributor, CpuInterface, Access, readCall, writeCall, Refuser, ReadsNothing, IgnoresWrites, gaveNumber, OneShot}
+use Rattle.shut_out.specs.ShutOut.{Behaviour, admitted, KeepsPromises, behaved, History, wordsAfter, Frame, Distributor, CpuInterface, Access, readCall, writeCall, Refuser, ReadsNothing, IgnoresWrites, gaveNumber, OneShot}
 
 -- the calls of a row and then one more are such as the types admit
 abbrev allAdmitted : List Call → Call → List ℕ → Bool
@@ -20,7 +20,7 @@ allAdmitted [] c s = admitted c s
 allAdmitted (d ∷ cs) c s = admitted d s && allAdmitted cs c (called d s .state)
 
 -- who keeps the promises answers that one as they say
-promised : (f : Behaviour) → Meets f → (cs : List Call) (c : Call) (s : List ℕ) → allAdmitted cs c s ≡ true → f c (behaved f cs s) ≡ called c (behaved called cs s)
+promised : (f : Behaviour) → KeepsPromises f → (cs : List Call) (c : Call) (s : List ℕ) → allAdmitted cs c s ≡ true → f c (behaved f cs s) ≡ called c (behaved called cs s)
 unfolding behaved
 promised f m [] c s p = m c s p
 promised f m (d ∷ cs) c s p =
@@ -37,18 +37,18 @@ history cs = record { count = 1; limit = 32; lent = words; calls = cs }
 abbrev begun : List ℕ
 begun = started (shaped 1 32) words
 
-set-up : (f : Behaviour) → Meets f → f (Setup 1 32) words ≡ gave 0 begun
+set-up : (f : Behaviour) → KeepsPromises f → f (Setup 1 32) words ≡ gave 0 begun
 unfolding zeros
 set-up f m = m (Setup 1 32) words refl ∙ setup-started 1 32 words refl refl
 
-from-setup : (f : Behaviour) → Meets f → (cs : List Call) (c : Call) → allAdmitted cs c begun ≡ true → f c (wordsAfter f (history cs)) ≡ called c (behaved called cs begun)
+from-setup : (f : Behaviour) → KeepsPromises f → (cs : List Call) (c : Call) → allAdmitted cs c begun ≡ true → f c (wordsAfter f (history cs)) ≡ called c (behaved called cs begun)
 unfolding behaved
 from-setup f m cs c p = rw (set-up f m) (promised f m cs c begun p)
 
 typer : Call
 typer = ReadDistributor 0 0x004 Dword
 
-pub no-refuser : (f : Behaviour) → Meets f → Refuser f → ⊥
+pub no-refuser : (f : Behaviour) → KeepsPromises f → Refuser f → ⊥
 unfolding behaved typer zeros computing
 no-refuser f m k = k (history []) typer refl (ap (λ (o : Outcome). o .refusal) (from-setup f m [] typer refl))
 
@@ -56,12 +56,12 @@ no-refuser f m k = k (history []) typer refl (ap (λ (o : Outcome). o .refusal) 
 control : Access
 control = record { vcpu = 0; offset = 0; width = Dword }
 
-kept : (f : Behaviour) → Meets f → (frame : Frame) → f (readCall frame control) (wordsAfter f (history (writeCall frame control 1 ∷ []))) .value ≡ 1
+kept : (f : Behaviour) → KeepsPromises f → (frame : Frame) → f (readCall frame control) (wordsAfter f (history (writeCall frame control 1 ∷ []))) .value ≡ 1
 unfolding behaved control zeros computing
 kept f m Distributor = ap (λ (o : Outcome). o .value) (from-setup f m (writeCall Distributor control 1 ∷ []) (readCall Distributor control) refl)
 kept f m CpuInterface = ap (λ (o : Outcome). o .value) (from-setup f m (writeCall CpuInterface control 1 ∷ []) (readCall CpuInterface control) refl)
 
-cleared : (f : Behaviour) → Meets f → (frame : Frame) → f (readCall frame control) (wordsAfter f (history [])) .value ≡ 0
+cleared : (f : Behaviour) → KeepsPromises f → (frame : Frame) → f (readCall frame control) (wordsAfter f (history [])) .value ≡ 0
 unfolding behaved control zeros computing
 cleared f m Distributor = ap (λ (o : Outcome). o .value) (from-setup f m [] (readCall Distributor control) refl)
 cleared f m CpuInterface = ap (λ (o : Outcome). o .value) (from-setup f m [] (readCall CpuInterface control) refl)
@@ -70,10 +70,10 @@ neither : (x : ℕ) → x ≡ 1 → (x ≡ 0) ⊎ (x ≡ 1023) → ⊥
 neither x p (inl e) = omega (arith, p, e)
 neither x p (inr e) = omega (arith, p, e)
 
-pub no-constant-reader : (frame : Frame) (f : Behaviour) → Meets f → ReadsNothing frame f → ⊥
+pub no-constant-reader : (frame : Frame) (f : Behaviour) → KeepsPromises f → ReadsNothing frame f → ⊥
 no-constant-reader frame f m k = neither _ (kept f m frame) (k (history (writeCall frame control 1 ∷ [])) control)
 
-pub no-deaf-controller : (frame : Frame) (f : Behaviour) → Meets f → IgnoresWrites frame f → ⊥
+pub no-deaf-controller : (frame : Frame) (f : Behaviour) → KeepsPromises f → IgnoresWrites frame f → ⊥
 unfolding behaved
 no-deaf-controller frame f m k = differ (sym (kept f m frame) ∙ k (history []) control control 1 ∙ cleared f m frame)
   where
@@ -109,7 +109,7 @@ second-given : gaveNumber second ≡ true
 unfolding behaved ring before between zeros computing
 second-given = refl
 
-pub no-one-shot : (f : Behaviour) → Meets f → OneShot f → ⊥
+pub no-one-shot : (f : Behaviour) → KeepsPromises f → OneShot f → ⊥
 unfolding behaved ring before between zeros computing
 no-one-shot f m k =
     let e : f (iarRead 0) (wordsAfter f (history before)) ≡ first = from-setup f m before (iarRead 0) refl in

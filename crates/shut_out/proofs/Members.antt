@@ -9,9 +9,9 @@ use native.Mathlib.Omega.{arith}
 use Rattle.register.specs.declared.frame.Refusal.the-variants.{BrokenState}
 use Rattle.answer.specs.Answer.{Outcome, refused, gave}
 use Rattle.history.specs.History.{Call, Setup, ReadDistributor, WriteDistributor, ReadCpuInterface, WriteCpuInterface, SetLevel, Pulse, called, noSetup, iarRead}
-use Rattle.shut_out.specs.ShutOut.{Behaviour, Meets, behaved, wordsAfter, Frame, Access, readCall, writeCall, Refuser, ReadsNothing, IgnoresWrites, gaveNumber, OneShot}
+use Rattle.shut_out.specs.ShutOut.{Behaviour, KeepsPromises, behaved, wordsAfter, Frame, Access, readCall, writeCall, Refuser, ReadsNothing, IgnoresWrites, gaveNumber, OneShot}
 
-pub one-meets : Meets called
+pub one-meets : KeepsPromises called
 one-meets c s p = refl
 
 -- one that refuses everything: it is of the first three kinds

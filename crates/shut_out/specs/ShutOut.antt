@@ -33,8 +33,8 @@ abbrev pub admitted : Call → List ℕ → Bool
 admitted c s = allBelow (2 ^ 64) (numbers c) && allBelow (2 ^ 32) s
 
 -- it keeps the promises
-abbrev pub Meets : Behaviour → Type 0
-Meets f = (c : Call) (s : List ℕ) → admitted c s ≡ true → f c s ≡ called c s
+abbrev pub KeepsPromises : Behaviour → Type 0
+KeepsPromises f = (c : Call) (s : List ℕ) → admitted c s ≡ true → f c s ≡ called c s
 
 -- the words that it leaves, call after call
 unfoldable pub behaved : Behaviour → List Call → List ℕ → List ℕ

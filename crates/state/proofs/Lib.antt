@@ -1,6 +1,7 @@
 -- Laws that belong to no one function.
 pub mod Accessors
 pub mod Canonical
+pub mod Decoded
 pub mod Equal
 pub mod Numbers
 pub mod Places

@@ -17,7 +17,7 @@ use Rattle.state.specs.declared.layout.InterfaceValue.the-variants.{Cont
 use Rattle.state.specs.Layout.{Slot, Count, Limit, DistributorControl, Interface, Sources, Private, Spi, Stack, size, place, Exists, Room, slotAt}
 use Rattle.state.specs.Loop.{upTo}
 use Rattle.state.specs.Words.{wordAt, kept, CanonicalWord, Canonical}
-use Rattle.state.specs.Lent.{Held}
+use Rattle.state.specs.Lent.{HoldsState}
 use Rattle.state.specs.Fresh.{startOf, startedAt, fresh}
 use Rattle.state.proofs.Places.{place-inside, slot-back}
 
@@ -62,7 +62,7 @@ module _ (shape : Shape) (s : List ℕ) where
   fresh-word t h e = fresh-at (place shape t) h (place-inside shape t (h .limits) e) ∙ ap (startOf shape) (slot-back shape t e)
 
   -- a fresh state passes the test of lent words
-  pub fresh-held : Room shape s → Held shape (fresh shape s)
+  pub fresh-held : Room shape s → HoldsState shape (fresh shape s)
   fresh-held h = record {
     stored = λ i. record { count = sym (fresh-word Count h tt) i; limit = sym (fresh-word Limit h tt) i };
     state = fresh-room h;

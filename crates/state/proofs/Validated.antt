@@ -16,7 +16,7 @@ use Rattle.state.specs.declared.lent.Lent.the-variants.{Sound, Broken}
 use Rattle.state.specs.Layout.{Interface, size, Limits}
 use Rattle.state.specs.Loop.{everyBelow}
 use Rattle.state.specs.Words.{wordAt}
-use Rattle.state.specs.Lent.{inLimits, shaped, limited, storedShape, depthFits, lentAs, validated, Held}
+use Rattle.state.specs.Lent.{inLimits, shaped, limited, storedShape, depthFits, lentAs, validated, HoldsState}
 use Rattle.state.proofs.Tests.{left-true, right-true, every-at, every-true}
 
 -- a limit of 0 is no limit
@@ -66,12 +66,12 @@ unfolding validated
 validated-within s t e = ap (lentAs s) e
 
 -- words that pass hold a state whose depths fit ..
-pub validated-held : (s : List ℕ) (shape : Shape) → validated s ≡ Sound shape → Held shape s
+pub validated-held : (s : List ℕ) (shape : Shape) → validated s ≡ Sound shape → HoldsState shape s
 unfolding validated
 validated-held s shape = from (storedShape s) refl
   where
     tested : (t : Shape) (b c : Bool) → leb (size t) (length s) ≡ b → everyBelow (depthFits t s) (t .count) ≡ c → cond (b && c) (Sound t) Broken ≡ Sound shape
-        → storedShape s ≡ Within t → Held shape s
+        → storedShape s ≡ Within t → HoldsState shape s
     tested t true true p q e w = let same : shape ≡ t = cc in rw same (record {
       stored = limited-shape (getD s 0 0) (getD s 1 0) t w;
       state = record { limits = limited-limits (getD s 0 0) (getD s 1 0) t w; room = leb-true (size t) (length s) p };
@@ -80,12 +80,12 @@ validated-held s shape = from (storedShape s) refl
     tested t true false p q e w = let z : _≡_ {A = ℕ} 0 1 = cc in absurd (omega arith)
     tested t false c p q e w = let z : _≡_ {A = ℕ} 0 1 = cc in absurd (omega arith)
 
-    from : (l : Limited) → storedShape s ≡ l → lentAs s l ≡ Sound shape → Held shape s
+    from : (l : Limited) → storedShape s ≡ l → lentAs s l ≡ Sound shape → HoldsState shape s
     from (Within t) w e = tested t (leb (size t) (length s)) (everyBelow (depthFits t s) (t .count)) refl refl e w
     from Outside w e = let z : _≡_ {A = ℕ} 0 1 = cc in absurd (omega arith)
 
 -- .. and all such words pass
-pub held-validated : (s : List ℕ) (shape : Shape) → Held shape s → validated s ≡ Sound shape
+pub held-validated : (s : List ℕ) (shape : Shape) → HoldsState shape s → validated s ≡ Sound shape
 unfolding validated
 held-validated s shape h =
     let c : getD s 0 0 ≡ shape .count = ap (λ (t : Shape). t .count) (sym (h .stored)) in

@@ -41,7 +41,7 @@ unfoldable pub validated : List ℕ → Lent
 validated s = lentAs s (storedShape s)
 
 -- what it is to pass the test
-pub record Held (shape : Shape) (s : List ℕ) : Type 0 where
+pub record HoldsState (shape : Shape) (s : List ℕ) : Type 0 where
   pub stored : shape ≡ shaped (getD s 0 0) (getD s 1 0)
   pub state : Room shape s
   pub depths : (v : ℕ) → v < shape .count → wordAt shape (Interface v Depth) s ≤ 255

@@ -91,7 +91,7 @@ abbrev pub withoutEntry : Shape → ℕ → ℕ → List ℕ → List ℕ
 withoutEntry shape v i s = put shape (Stack v i) 0 s
 
 -- words that hold a slot
-pub record Holds (shape : Shape) (t : Slot) (s : List ℕ) : Type 0 where
+pub record HoldsSlot (shape : Shape) (t : Slot) (s : List ℕ) : Type 0 where
   pub state : Room shape s
   pub exists : Exists shape t
 

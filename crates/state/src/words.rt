@@ -1,7 +1,7 @@
 // What the words of a state mean, and what is written for it: two functions for each kind of slot.
 ghost use mathlib.Core.Path.{_≡_};
 ghost use Rattle.state.specs.Layout.{Interface, Sources, Stack, Room};
-ghost use Rattle.state.specs.Words.{Reached, Holds, recordAt, withRecord, sourcesAt, withSources, kept, interfaceAt, withInterface, enabledAt, withEnabledAt, entryOf, entryWord, entryAt, withEntry, withoutEntry};
+ghost use Rattle.state.specs.Words.{Reached, HoldsSlot, recordAt, withRecord, sourcesAt, withSources, kept, interfaceAt, withInterface, enabledAt, withEnabledAt, entryOf, entryWord, entryAt, withEntry, withoutEntry};
 use crate::layout::DISTRIBUTOR_CONTROL;
 use crate::layout::InterfaceValue;
 use crate::layout::Shape;
@@ -45,7 +45,7 @@ pub fn put_record(
 }
 
 pub fn sgi_sources(words: &[u32], shape: Shape, vcpu: GicVcpuId, sgi: IntId) -> u8
-    requires { ⌜ Holds shape (Sources (vcpu .0) (sgi .0)) (now words) ⌝ }
+    requires { ⌜ HoldsSlot shape (Sources (vcpu .0) (sgi .0)) (now words) ⌝ }
     ensures { λ r. ⌜ r ≡ sourcesAt shape (vcpu .0) (sgi .0) (now (words .entry)) ⌝ }
 {
     let at = sources_place(shape, vcpu, sgi);
@@ -53,7 +53,7 @@ pub fn sgi_sources(words: &[u32], shape: Shape, vcpu: GicVcpuId, sgi: IntId) -> 
 }
 
 pub fn put_sgi_sources(words: &mut [u32], shape: Shape, vcpu: GicVcpuId, sgi: IntId, sources: u8)
-    requires { ⌜ Holds shape (Sources (vcpu .0) (sgi .0)) (now words) ⌝ }
+    requires { ⌜ HoldsSlot shape (Sources (vcpu .0) (sgi .0)) (now words) ⌝ }
     ensures { λ r. ⌜ now (words .exit) ≡ withSources shape (vcpu .0) (sgi .0) sources (now (words .entry)) ⌝ }
 {
     let at = sources_place(shape, vcpu, sgi);
@@ -75,7 +75,7 @@ impl InterfaceValue {
 }
 
 pub fn interface_value(words: &[u32], shape: Shape, vcpu: GicVcpuId, value: InterfaceValue) -> u32
-    requires { ⌜ Holds shape (Interface (vcpu .0) value) (now words) ⌝ }
+    requires { ⌜ HoldsSlot shape (Interface (vcpu .0) value) (now words) ⌝ }
     ensures { λ r. ⌜ r ≡ interfaceAt shape (vcpu .0) value (now (words .entry)) ⌝ }
 {
     let at = interface_place(shape, vcpu, value);
@@ -89,7 +89,7 @@ pub fn put_interface_value(
     value: InterfaceValue,
     bits: u32,
 )
-    requires { ⌜ Holds shape (Interface (vcpu .0) value) (now words) ⌝ }
+    requires { ⌜ HoldsSlot shape (Interface (vcpu .0) value) (now words) ⌝ }
     ensures { λ r. ⌜ now (words .exit) ≡ withInterface shape (vcpu .0) value bits (now (words .entry)) ⌝ }
 {
     let at = interface_place(shape, vcpu, value);
@@ -130,7 +130,7 @@ fn entry_word(entry: Entry) -> u32
 }
 
 pub fn stack_entry(words: &[u32], shape: Shape, vcpu: GicVcpuId, index: usize) -> Entry
-    requires { ⌜ Holds shape (Stack (vcpu .0) index) (now words) ⌝ }
+    requires { ⌜ HoldsSlot shape (Stack (vcpu .0) index) (now words) ⌝ }
     ensures { λ r. ⌜ r ≡ entryAt shape (vcpu .0) index (now (words .entry)) ⌝ }
 {
     let at = stack_place(shape, vcpu, index);
@@ -138,7 +138,7 @@ pub fn stack_entry(words: &[u32], shape: Shape, vcpu: GicVcpuId, index: usize) -
 }
 
 pub fn put_stack_entry(words: &mut [u32], shape: Shape, vcpu: GicVcpuId, index: usize, entry: Entry)
-    requires { ⌜ Holds shape (Stack (vcpu .0) index) (now words) ⌝ }
+    requires { ⌜ HoldsSlot shape (Stack (vcpu .0) index) (now words) ⌝ }
     ensures { λ r. ⌜ now (words .exit) ≡ withEntry shape (vcpu .0) index entry (now (words .entry)) ⌝ }
 {
     let at = stack_place(shape, vcpu, index);
@@ -146,7 +146,7 @@ pub fn put_stack_entry(words: &mut [u32], shape: Shape, vcpu: GicVcpuId, index: 
 }
 
 pub fn clear_stack_entry(words: &mut [u32], shape: Shape, vcpu: GicVcpuId, index: usize)
-    requires { ⌜ Holds shape (Stack (vcpu .0) index) (now words) ⌝ }
+    requires { ⌜ HoldsSlot shape (Stack (vcpu .0) index) (now words) ⌝ }
     ensures { λ r. ⌜ now (words .exit) ≡ withoutEntry shape (vcpu .0) index (now (words .entry)) ⌝ }
 {
     let at = stack_place(shape, vcpu, index);

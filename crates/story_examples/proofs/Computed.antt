@@ -26,7 +26,7 @@ use Rattle.corners.proofs.Started.{started, setup-started, computing}
 use Rattle.stories.specs.Stories.{Takes, ahead, NoneAhead, TwoRings, bothWait, firstRead, oneWaits, secondRead, Sleeping, PulseInFlight, turn, readAgain, InService}
 use Rattle.stories.proofs.TwoRings.{both-given}
 use Rattle.stories.proofs.PulseInFlight.{given-again}
-use Rattle.story_examples.specs.Examples.{lent, afterCalls, beforeRings, twoRingsFrom, twoRings, beforePulse, pulseInFlightFrom, pulseInFlight}
+use Rattle.story_examples.specs.Examples.{lent, afterCalls, beforeRings, twoRingsFrom, ringsExample, beforePulse, pulseInFlightFrom, pulseExample}
 
 -- the words after a setup and calls, from the state that setup leaves built once
 module _ (count limit : ℕ) (cs : List Call) where
@@ -130,17 +130,17 @@ rings-sleeping = record {
   none-ahead₂ = none-ahead (shaped 3 34) 2 3 (oneWaits rings) second-turn;
 }
 
-pub sleeping : Sleeping twoRings
+pub sleeping : Sleeping ringsExample
 unfolding zeros
 sleeping = subst (λ (s : List ℕ). Sleeping (twoRingsFrom s)) (same-words 3 34 beforeRings refl refl) rings-sleeping
 
-pub first-read : firstRead twoRings .value ≡ 3
+pub first-read : firstRead ringsExample .value ≡ 3
 unfolding twoRingsFrom
-first-read = both-given twoRings sleeping .first-given
+first-read = both-given ringsExample sleeping .first-given
 
-pub second-read : secondRead twoRings .value ≡ 0x403
+pub second-read : secondRead ringsExample .value ≡ 0x403
 unfolding twoRingsFrom
-second-read = both-given twoRings sleeping .second-given
+second-read = both-given ringsExample sleeping .second-given
 
 -- a pulse in flight
 abbrev inService : List ℕ
@@ -178,10 +178,10 @@ pulses-served = record {
   none-ahead = none-ahead (shaped 1 34) 0 33 (turn pulses) its-turn;
 }
 
-pub served : InService pulseInFlight
+pub served : InService pulseExample
 unfolding zeros
 served = subst (λ (s : List ℕ). InService (pulseInFlightFrom s)) (same-words 1 34 beforePulse refl refl) pulses-served
 
-pub read-again : readAgain pulseInFlight .value ≡ 33
+pub read-again : readAgain pulseExample .value ≡ 33
 unfolding pulseInFlightFrom
-read-again = given-again pulseInFlight served .given-again
+read-again = given-again pulseExample served .given-again

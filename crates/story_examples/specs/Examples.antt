@@ -45,8 +45,8 @@ twoRingsFrom s = record {
   meanwhile₅ = ReadCpuInterface 0 0x14 Dword ∷ [];
 }
 
-abbrev pub twoRings : TwoRings
-twoRings = twoRingsFrom (afterCalls 3 34 beforeRings)
+abbrev pub ringsExample : TwoRings
+ringsExample = twoRingsFrom (afterCalls 3 34 beforeRings)
 
 -- A pulse in flight. Before it all is turned on; SPI 33 is made edge, vCPU 0's and enabled, and SGI 5 less urgent than it; SPI 33 is pulsed a
 -- first time and acknowledged.
@@ -79,5 +79,5 @@ pulseInFlightFrom s = record {
   reader = 0;
 }
 
-abbrev pub pulseInFlight : PulseInFlight
-pulseInFlight = pulseInFlightFrom (afterCalls 1 34 beforePulse)
+abbrev pub pulseExample : PulseInFlight
+pulseExample = pulseInFlightFrom (afterCalls 1 34 beforePulse)

@@ -4,9 +4,9 @@ use mathlib.Core.Bool.{Bool}
 use mathlib.Core.List.{List}
 use Prim.Native.Nat.{ℕ}
 use Rattle.answer.specs.Answer.{Outcome, AdmitsOne}
-use Rattle.vgic.specs.Packed.{Answers, VgicSetup, VgicReadDistributor, VgicWriteDistributor, VgicReadCpuInterface, VgicWriteCpuInterface, VgicSetLevel, VgicPulse}
+use Rattle.vgic.specs.Packed.{PacksTo, VgicSetup, VgicReadDistributor, VgicWriteDistributor, VgicReadCpuInterface, VgicWriteCpuInterface, VgicSetLevel, VgicPulse}
 
-one : {meaning : Outcome} → AdmitsOne (λ number s. Answers number s meaning)
+one : {meaning : Outcome} → AdmitsOne (λ number s. PacksTo number s meaning)
 one a b x y p q = (p .number-is ∙ sym (q .number-is), p .state-is ∙ sym (q .state-is))
 
 pub vgic-setup-one : (count limit : ℕ) (s : List ℕ) → AdmitsOne (VgicSetup count limit s)

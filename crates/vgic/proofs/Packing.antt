@@ -5,9 +5,9 @@ use Prim.Native.Nat.{ℕ, _/_, _%_, _^_, _<_}
 use native.Mathlib.Omega.{arith}
 use Rattle.answer.specs.declared.Answer.{Answer}
 use Rattle.answer.specs.Answer.{Outcome, outcome}
-use Rattle.vgic.specs.Packed.{packedAnswer, Answers}
+use Rattle.vgic.specs.Packed.{packedAnswer, PacksTo}
 
-pub answers : (number : ℕ) (a : Answer) → ((s : List ℕ) → number ≡ packedAnswer (outcome a s)) → (s : List ℕ) (o : Outcome) → outcome a s ≡ o → Answers number s o
+pub answers : (number : ℕ) (a : Answer) → ((s : List ℕ) → number ≡ packedAnswer (outcome a s)) → (s : List ℕ) (o : Outcome) → outcome a s ≡ o → PacksTo number s o
 answers number a p s o q = record { number-is = p s ∙ ap packedAnswer q; state-is = ap (λ (t : Outcome). t .state) q }
 
 -- the fields of a packed answer read back

@@ -23,7 +23,7 @@ unfoldable pub packedAnswer : Outcome → ℕ
 packedAnswer o = o .value + 2 ^ 32 * (o .retired % 2 ^ 16) + 2 ^ 48 * o .wake + 2 ^ 56 * o .refusal
 
 -- a call at the C face: its number and the words after it are the outcome's
-pub record Answers (number : ℕ) (s : List ℕ) (o : Outcome) : Type 0 where
+pub record PacksTo (number : ℕ) (s : List ℕ) (o : Outcome) : Type 0 where
   pub number-is : number ≡ packedAnswer o
   pub state-is : s ≡ o .state
 
@@ -37,27 +37,27 @@ accessed width s call = atWidth (decodedWidth width) s call
 
 -- what the C functions promise of their number and the words after it
 abbrev pub VgicSetup : ℕ → ℕ → List ℕ → ℕ → List ℕ → Type 0
-VgicSetup count limit before number after = Answers number after (setup count limit before)
+VgicSetup count limit before number after = PacksTo number after (setup count limit before)
 
 abbrev pub VgicReadDistributor : ℕ → ℕ → ℕ → List ℕ → ℕ → List ℕ → Type 0
-VgicReadDistributor v offset width before number after = Answers number after (accessed width before (λ w. readV2Distributor v offset w before))
+VgicReadDistributor v offset width before number after = PacksTo number after (accessed width before (λ w. readV2Distributor v offset w before))
 
 abbrev pub VgicWriteDistributor : ℕ → ℕ → ℕ → ℕ → List ℕ → ℕ → List ℕ → Type 0
 VgicWriteDistributor v offset width value before number after =
-    Answers number after (accessed width before (λ w. writeV2Distributor v offset w value before))
+    PacksTo number after (accessed width before (λ w. writeV2Distributor v offset w value before))
 
 abbrev pub VgicReadCpuInterface : ℕ → ℕ → ℕ → List ℕ → ℕ → List ℕ → Type 0
-VgicReadCpuInterface v offset width before number after = Answers number after (accessed width before (λ w. readV2CpuInterface v offset w before))
+VgicReadCpuInterface v offset width before number after = PacksTo number after (accessed width before (λ w. readV2CpuInterface v offset w before))
 
 abbrev pub VgicWriteCpuInterface : ℕ → ℕ → ℕ → ℕ → List ℕ → ℕ → List ℕ → Type 0
 VgicWriteCpuInterface v offset width value before number after =
-    Answers number after (accessed width before (λ w. writeV2CpuInterface v offset w value before))
+    PacksTo number after (accessed width before (λ w. writeV2CpuInterface v offset w value before))
 
 abbrev pub VgicSetLevel : ℕ → ℕ → Bool → List ℕ → ℕ → List ℕ → Type 0
-VgicSetLevel v n asserted before number after = Answers number after (deviceLevel v n asserted before)
+VgicSetLevel v n asserted before number after = PacksTo number after (deviceLevel v n asserted before)
 
 abbrev pub VgicPulse : ℕ → ℕ → List ℕ → ℕ → List ℕ → Type 0
-VgicPulse v n before number after = Answers number after (devicePulse v n before)
+VgicPulse v n before number after = PacksTo number after (devicePulse v n before)
 
 -- how many words a state takes, 0 where count or limit is out of range
 abbrev pub sizeOf : Limited → ℕ

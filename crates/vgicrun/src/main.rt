@@ -5,7 +5,7 @@ ghost use mathlib.Core.Path.{_≡_};
 ghost use Prim.Native.Nat.{_≤_};
 ghost use lib.ListN.{length};
 ghost use Rattle.runner.specs.Runner.{startWords};
-ghost use Rattle.runner.specs.Feeding.{Begun, Went, RestAnswered};
+ghost use Rattle.runner.specs.Feeding.{Begun, BytesRun, RestAnswered};
 use libc::STDIN_FILENO;
 use libc::STDOUT_FILENO;
 use runner::KEPT;
@@ -27,7 +27,7 @@ fn answer_block(
     out: &mut [u8],
 ) -> Turn
     requires { ⌜ (Begun begun (now line)) × (30 ≤ length (now out)) ⌝ }
-    ensures { λ r. ⌜ (r .begun ≤ 81) × (r .more ≡ true → Went (now (block .entry)) begun (now (line .entry)) (now (words .entry)) (r .begun) (now (line .exit)) (now (words .exit))) ⌝ }
+    ensures { λ r. ⌜ (r .begun ≤ 81) × (r .more ≡ true → BytesRun (now (block .entry)) begun (now (line .entry)) (now (words .entry)) (r .begun) (now (line .exit)) (now (words .exit))) ⌝ }
 {
     let mut kept = begun;
     let mut from = 0;

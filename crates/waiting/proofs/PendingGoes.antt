@@ -23,7 +23,7 @@ use Rattle.state.specs.declared.words.Entry.{Entry}
 use Rattle.state.specs.Layout.{Slot}
 use Rattle.state.specs.Words.{wordAt, RecordThere, recordAt, interfaceAt}
 use Rattle.state.proofs.Tests.{left-true, right-true}
-use Rattle.bits.specs.Bits.{writeBits, WordAt}
+use Rattle.bits.specs.Bits.{writeBits, BitWordAt}
 use Rattle.bits.proofs.Registers.{record-written}
 use Rattle.select.specs.Select.{offered, candidate}
 use Rattle.select.proofs.Meaning.{best-is}
@@ -62,7 +62,7 @@ handed v r = refl
 -- at the vCPU u that makes the call
 module _ (shape : Shape) (n : ℕ) (past : 16 ≤ n) (s : List ℕ) (h : Controls shape s) (u : ℕ) (there : RecordThere shape u n) where
   -- ICPENDR
-  word-clears : (first value i : ℕ) → WordAt shape Icpendr u first s → i < 32 → first + i ≡ n → eqb (fieldAt 1 i value) 1 ≡ true
+  word-clears : (first value i : ℕ) → BitWordAt shape Icpendr u first s → i < 32 → first + i ≡ n → eqb (fieldAt 1 i value) 1 ≡ true
       → pends shape u n (writeBits shape Icpendr u first value s) ≡ false
   word-clears first value i at inside is set =
       subst (λ (m : ℕ). pends shape u m (writeBits shape Icpendr u first value s) ≡ false) is

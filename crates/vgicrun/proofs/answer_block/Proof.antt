@@ -7,14 +7,14 @@ use lib.ListN.{length, take}
 use lib.Seq.{length-take-le, take-all}
 use borrow.Author.Needs.{needs}
 use Rattle.script.proofs.Puts.{put-length, put-inside}
-use Rattle.runner.specs.Feeding.{Went}
+use Rattle.runner.specs.Feeding.{BytesRun}
 use Rattle.runner.proofs.Running.{went-none, went-then, slice-join, moves}
 use Rattle.vgicrun.proofs.answer_block.Statement.{statement}
 use Rattle.vgicrun.proofs.answer_block.Tie as tie
 
 abbrev Inv-loop : tie.InvT-loop
 Inv-loop words₀ line₀ begun block out₀ kept₀ from₀ words line out kept from =
-    (from ≤ length block) × (length words ≡ length words₀) × (length line ≡ length line₀) × (length out ≡ length out₀) × Went (take from block) begun line₀ words₀ kept line words
+    (from ≤ length block) × (length words ≡ length words₀) × (length line ≡ length line₀) × (length out ≡ length out₀) × BytesRun (take from block) begun line₀ words₀ kept line words
 
 abbrev μ-loop : tie.MeasureT-loop
 μ-loop words₀ line₀ begun block out₀ kept₀ from₀ words line out kept from = length block - from
