@@ -1,6 +1,6 @@
 -- IAR: document 01, "CPU interface places", IAR, and refusal 7; IHI 0048, 4.4.4, "Interrupt Acknowledge Register".
 use mathlib.Core.Path.{_≡_}
-use mathlib.Core.Bool.{true, false, cond}
+use mathlib.Core.Bool.{Bool, true, false, cond}
 use mathlib.Core.List.{List}
 use Prim.Native.Nat.{ℕ, zero, suc, _+_, _*_, _/_, _%_, _^_, _<_}
 use lib.Dec.{eqb, ltb}
@@ -11,9 +11,10 @@ use Rattle.interrupt.specs.declared.record.InterruptRecord.{InterruptRecord}
 use Rattle.interrupt.specs.declared.record.Owner.the-variants.{Vcpu}
 use Rattle.state.specs.declared.layout.Shape.{Shape}
 use Rattle.state.specs.declared.words.Entry.{Entry}
-use Rattle.state.specs.Layout.{Room}
+use Rattle.state.specs.Layout.{Room, stackCapacity}
 use Rattle.state.specs.Words.{changed, sourcesAt, withSources, enabledAt}
 use Rattle.sgi.specs.Sgi.{mergedSources}
+use Rattle.select.specs.declared.Candidate.{Candidate}
 use Rattle.select.specs.declared.Selected.{Selected}
 use Rattle.select.specs.declared.Selected.the-variants.{Best, Nothing}
 use Rattle.select.specs.Select.{best, bothOn}
@@ -21,13 +22,17 @@ use Rattle.service.specs.Service.{depthAt, running, pushed, Served}
 use Rattle.acknowledge.specs.declared.Read.{Read}
 use Rattle.acknowledge.specs.declared.Read.the-variants.{Value, StackFull}
 
--- "gives the best only if both are on and its priority is below the running priority"
-abbrev pub preempting : ℕ → Selected → Selected
-preempting running Nothing = Nothing
-preempting running (Best e) = cond (ltb (e .priority .0) running) (Best e) Nothing
+-- "its priority is below the running priority"
+abbrev pub preempts : Shape → ℕ → List ℕ → Candidate → Bool
+preempts shape v s c = ltb (c .priority .0) (running shape v s)
 
+abbrev pub preempting : Shape → ℕ → List ℕ → Selected → Selected
+preempting shape v s Nothing = Nothing
+preempting shape v s (Best c) = cond (preempts shape v s c) (Best c) Nothing
+
+-- "gives the best only if both are on and its priority is below the running priority"
 unfoldable pub offer : Shape → ℕ → List ℕ → Selected
-offer shape v s = cond (bothOn shape v s) (preempting (running shape v s) (best shape v s)) Nothing
+offer shape v s = cond (bothOn shape v s) (preempting shape v s (best shape v s)) Nothing
 
 -- the lowest 1 bit of eight, 0 if there is none
 unfoldable pub lowestFrom : ℕ → ℕ → ℕ → ℕ
@@ -55,19 +60,23 @@ sourceTaken shape v n source s = cond (isSgi (record { 0 = n })) (pendIfLeft sha
 unfoldable pub givenRecord : ℕ → InterruptRecord → InterruptRecord
 givenRecord v r = synchronizeInflight (setOwner (markInflight r) (Vcpu (record { 0 = v }))) Active .after
 
+-- what is pushed for a candidate: "number and priority"
+abbrev pub pushedFor : Candidate → Entry
+pushedFor c = record { intid = c .intid; priority = c .priority }
+
 -- ".. and pushes number and priority": here before the record is marked, which is the same (`given-in-order` in crates/delivery); the source is
 -- taken last, for it may pend the record again
-unfoldable pub given : Shape → ℕ → Entry → List ℕ → List ℕ
-given shape v e s = sourceTaken shape v (e .intid .0) (sourceOf shape v (e .intid .0) s) (changed shape v (e .intid .0) (givenRecord v) (pushed shape v e s))
+unfoldable pub given : Shape → ℕ → Candidate → List ℕ → List ℕ
+given shape v c s = sourceTaken shape v (c .intid .0) (sourceOf shape v (c .intid .0) s) (changed shape v (c .intid .0) (givenRecord v) (pushed shape v (pushedFor c) s))
 
 -- "answers number + 1024*source"; "else 1023"; 7 if it "would hand out an interrupt and the service stack holds 255"
 unfoldable pub answered : Shape → ℕ → List ℕ → Selected → Read
 answered shape v s Nothing = Value 1023
-answered shape v s (Best e) = cond (ltb (depthAt shape v s) 255) (Value (e .intid .0 + 1024 * sourceOf shape v (e .intid .0) s)) StackFull
+answered shape v s (Best c) = cond (ltb (depthAt shape v s) stackCapacity) (Value (c .intid .0 + 1024 * sourceOf shape v (c .intid .0) s)) StackFull
 
 unfoldable pub taken : Shape → ℕ → List ℕ → Selected → List ℕ
 taken shape v s Nothing = s
-taken shape v s (Best e) = cond (ltb (depthAt shape v s) 255) (given shape v e s) s
+taken shape v s (Best c) = cond (ltb (depthAt shape v s) stackCapacity) (given shape v c s) s
 
 -- what an IAR read by v answers, and the state after it
 abbrev pub acknowledge : Shape → ℕ → List ℕ → Read
@@ -91,7 +100,7 @@ pub record MayAcknowledge (shape : Shape) (v : ℕ) (s : List ℕ) : Type 0 wher
   pub served : enabledAt shape s ≡ true → Served shape v s
 
 -- words that hold a state, and an interrupt that the vCPU can be given
-pub record Givable (shape : Shape) (v : ℕ) (e : Entry) (s : List ℕ) : Type 0 where
+pub record Givable (shape : Shape) (v : ℕ) (c : Candidate) (s : List ℕ) : Type 0 where
   pub served : Served shape v s
-  pub room : depthAt shape v s < 255
-  pub numbered : e .intid .0 < shape .limit
+  pub room : depthAt shape v s < stackCapacity
+  pub numbered : c .intid .0 < shape .limit

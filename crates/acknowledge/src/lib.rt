@@ -4,14 +4,14 @@ ghost use Prim.Native.Nat.{_+_, _*_, _<_};
 ghost use Rattle.state.specs.Layout.{Sources};
 ghost use Rattle.state.specs.Words.{Reached, HoldsSlot, changed, withSources};
 ghost use Rattle.select.specs.declared.Selected.the-variants.{Best};
-ghost use Rattle.service.specs.Service.{Served};
-ghost use Rattle.acknowledge.specs.Acknowledge.{preempting, offer, lowestSource, sourceOf, pendIfLeft, sourceTaken, givenRecord, given, answered, taken, acknowledge, acknowledged, MayAcknowledge, Givable};
+ghost use Rattle.service.specs.Service.{pushed, Served};
+ghost use Rattle.acknowledge.specs.Acknowledge.{preempts, preempting, offer, lowestSource, sourceOf, pendIfLeft, sourceTaken, givenRecord, pushedFor, given, answered, taken, acknowledge, acknowledged, MayAcknowledge, Givable};
 use interrupt::GicVcpuId;
 use interrupt::IntId;
 use interrupt::InterruptRecord;
 use interrupt::InterruptState;
 use interrupt::Owner;
-use interrupt::Priority;
+use select::Candidate;
 use select::Selected;
 use select::both_enabled;
 use select::highest_pending;
@@ -21,6 +21,7 @@ use service::running_priority;
 use sgi::set_pending;
 use state::Entry;
 use state::Shape;
+use state::layout::STACK_CAPACITY;
 use state::words::distributor_enabled;
 use state::words::put_record;
 use state::words::put_sgi_sources;
@@ -34,13 +35,21 @@ pub enum Read {
     StackFull,
 }
 
-fn preempting(selected: Selected, running: Priority) -> Selected
-    ensures { λ r. ⌜ r ≡ preempting (running .0) selected ⌝ }
+fn preempts(words: &[u32], shape: Shape, vcpu: GicVcpuId, candidate: Candidate) -> bool
+    requires { ⌜ Served shape (vcpu .0) (now words) ⌝ }
+    ensures { λ r. ⌜ r ≡ preempts shape (vcpu .0) (now (words .entry)) candidate ⌝ }
+{
+    candidate.priority.0 < running_priority(words, shape, vcpu).0
+}
+
+fn preempting(words: &[u32], shape: Shape, vcpu: GicVcpuId, selected: Selected) -> Selected
+    requires { ⌜ Served shape (vcpu .0) (now words) ⌝ }
+    ensures { λ r. ⌜ r ≡ preempting shape (vcpu .0) (now (words .entry)) selected ⌝ }
 {
     match selected {
-        Selected::Best(entry) => {
-            if entry.priority.0 < running.0 {
-                Selected::Best(entry)
+        Selected::Best(candidate) => {
+            if preempts(words, shape, vcpu, candidate) {
+                Selected::Best(candidate)
             } else {
                 Selected::Nothing
             }
@@ -55,8 +64,7 @@ pub fn offer(words: &[u32], shape: Shape, vcpu: GicVcpuId) -> Selected
     ensures { λ r. ⌜ r ≡ offer shape (vcpu .0) (now (words .entry)) ⌝ }
 {
     if both_enabled(words, shape, vcpu) {
-        let running = running_priority(words, shape, vcpu);
-        preempting(highest_pending(words, shape, vcpu), running)
+        preempting(words, shape, vcpu, highest_pending(words, shape, vcpu))
     } else {
         Selected::Nothing
     }
@@ -127,25 +135,41 @@ fn mark_inflight(words: &mut [u32], shape: Shape, vcpu: GicVcpuId, intid: IntId)
     put_record(words, shape, vcpu, intid, given);
 }
 
-// The source is taken last: it may pend the record again, which is marked before.
-fn give(words: &mut [u32], shape: Shape, vcpu: GicVcpuId, entry: Entry) -> u32
-    requires { ⌜ Givable shape (vcpu .0) entry (now words) ⌝ }
-    ensures { λ r. ⌜ (r ≡ entry .intid .0 + 1024 * sourceOf shape (vcpu .0) (entry .intid .0) (now (words .entry))) × (now (words .exit) ≡ given shape (vcpu .0) entry (now (words .entry))) ⌝ }
+// What is pushed for a candidate.
+fn pushed_for(candidate: Candidate) -> Entry
+    ensures { λ r. ⌜ r ≡ pushedFor candidate ⌝ }
 {
-    let intid = entry.intid;
+    let intid = candidate.intid;
+    let priority = candidate.priority;
+    Entry { intid, priority }
+}
+
+fn serve(words: &mut [u32], shape: Shape, vcpu: GicVcpuId, candidate: Candidate)
+    requires { ⌜ Givable shape (vcpu .0) candidate (now words) ⌝ }
+    ensures { λ r. ⌜ now (words .exit) ≡ changed shape (vcpu .0) (candidate .intid .0) (givenRecord (vcpu .0)) (pushed shape (vcpu .0) (pushedFor candidate) (now (words .entry))) ⌝ }
+{
+    push_v2_active(words, shape, vcpu, pushed_for(candidate));
+    mark_inflight(words, shape, vcpu, candidate.intid);
+}
+
+// The source is taken last: it may pend the record again, which is marked before.
+fn give(words: &mut [u32], shape: Shape, vcpu: GicVcpuId, candidate: Candidate) -> u32
+    requires { ⌜ Givable shape (vcpu .0) candidate (now words) ⌝ }
+    ensures { λ r. ⌜ (r ≡ candidate .intid .0 + 1024 * sourceOf shape (vcpu .0) (candidate .intid .0) (now (words .entry))) × (now (words .exit) ≡ given shape (vcpu .0) candidate (now (words .entry))) ⌝ }
+{
+    let intid = candidate.intid;
     let source = sgi_source(words, shape, vcpu, intid);
-    push_v2_active(words, shape, vcpu, entry);
-    mark_inflight(words, shape, vcpu, intid);
+    serve(words, shape, vcpu, candidate);
     take_sgi_source(words, shape, vcpu, intid, source);
     intid.0 + 1024 * (source.0 as u32)
 }
 
-fn accept(words: &mut [u32], shape: Shape, vcpu: GicVcpuId, entry: Entry) -> Read
-    requires { ⌜ (Served shape (vcpu .0) (now words)) × (entry .intid .0 < shape .limit) ⌝ }
-    ensures { λ r. ⌜ (r ≡ answered shape (vcpu .0) (now (words .entry)) (Best entry)) × (now (words .exit) ≡ taken shape (vcpu .0) (now (words .entry)) (Best entry)) ⌝ }
+fn accept(words: &mut [u32], shape: Shape, vcpu: GicVcpuId, candidate: Candidate) -> Read
+    requires { ⌜ (Served shape (vcpu .0) (now words)) × (candidate .intid .0 < shape .limit) ⌝ }
+    ensures { λ r. ⌜ (r ≡ answered shape (vcpu .0) (now (words .entry)) (Best candidate)) × (now (words .exit) ≡ taken shape (vcpu .0) (now (words .entry)) (Best candidate)) ⌝ }
 {
-    if depth(words, shape, vcpu) < 255 {
-        Read::Value(give(words, shape, vcpu, entry))
+    if depth(words, shape, vcpu) < STACK_CAPACITY {
+        Read::Value(give(words, shape, vcpu, candidate))
     } else {
         Read::StackFull
     }
@@ -156,7 +180,7 @@ fn take_pending_delivery(words: &mut [u32], shape: Shape, vcpu: GicVcpuId) -> Re
     ensures { λ r. ⌜ (r ≡ acknowledge shape (vcpu .0) (now (words .entry))) × (now (words .exit) ≡ acknowledged shape (vcpu .0) (now (words .entry))) ⌝ }
 {
     match offer(words, shape, vcpu) {
-        Selected::Best(entry) => accept(words, shape, vcpu, entry),
+        Selected::Best(candidate) => accept(words, shape, vcpu, candidate),
         Selected::Nothing => Read::Value(IntId::SPURIOUS.0),
     }
 }

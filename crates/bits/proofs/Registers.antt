@@ -22,7 +22,7 @@ use Rattle.state.specs.Layout.{Slot, Exists, Room}
 use Rattle.state.specs.Words.{wordAt, recordSlot, recordAt, changed}
 use Rattle.state.proofs.Accessors.{record-exists, record-same}
 use Rattle.state.proofs.Numbers.{Of, if-local, changed-local, run-written, run-others}
-use Rattle.state.proofs.Steps.{Agree, Local, steps-room}
+use Rattle.state.proofs.Steps.{slots, Agree, Local, steps-room}
 use Rattle.state.proofs.Tests.{left-true}
 use Rattle.bits.specs.Bits.{fieldBits, perWord, readNumber, readBits, acts, clearActive, act, writeNumber, writeBits, BitWordAt}
 use Rattle.bits.proofs.BitLaws.{number-below}
@@ -80,12 +80,12 @@ module _ (shape : Shape) (register : BitRegister) (v first value : ℕ) (s : Lis
       → wordAt shape t (writeBits shape register v first value s) ≡ wordAt shape t s
   unfolding writeBits
   bits-others t e away =
-      run-others shape v first (perWord register) (λ j. writeNumber shape register v (first + j) (fieldAt (fieldBits register) j value)) s (λ j c. step j) t e away
+      run-others shape v first (perWord register) (λ j. writeNumber shape register v (first + j) (fieldAt (fieldBits register) j value)) s (λ j c. step j) (at .state) t e away
 
   pub bits-room : Room shape (writeBits shape register v first value s)
   unfolding writeBits
   bits-room =
-      steps-room shape (λ j. Of v (first + j)) (λ j. writeNumber shape register v (first + j) (fieldAt (fieldBits register) j value)) (perWord register) s (λ j c. step j) (at .state)
+      steps-room (slots shape) (λ j. Of v (first + j)) (λ j. writeNumber shape register v (first + j) (fieldAt (fieldBits register) j value)) (perWord register) s (λ j c. step j) (at .state)
 
   -- so exactly the records change whose fields act
   pub record-written : (i : ℕ) → i < perWord register → first + i < shape .limit

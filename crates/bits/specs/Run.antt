@@ -1,15 +1,13 @@
 -- How `read_bits` and `write_bits` go about it: what the functions below them promise each other. A reader need not believe any of it; the
 -- promises of the two are in Bits.antt.
 use mathlib.Core.Path.{_≡_}
-use mathlib.Core.Bool.{cond}
 use mathlib.Core.List.{List}
 use Prim.Native.Nat.{ℕ, _+_, _*_, _/_, _%_, _^_, _≤_, _<_}
-use lib.ListN.{length, getD, set}
+use lib.ListN.{length, getD}
 use Rattle.register.specs.declared.ranges.BitRegister.{BitRegister}
 use Rattle.register.specs.declared.ranges.BitRegister.the-variants.{Igroupr, Isenabler, Icenabler, Ispendr, Icpendr, Isactiver, Icactiver, Icfgr}
-use Rattle.word.specs.Fields.{fieldAt}
-use Rattle.word.specs.Word.{recordOf, wordOf}
-use Rattle.bits.specs.Bits.{fieldBits, perWord, readField, acts, act}
+use Rattle.word.specs.Word.{recordOf}
+use Rattle.bits.specs.Bits.{fieldBits, perWord, readField}
 
 -- r of the k numbers from `first` up are below the limit
 pub record Existing (limit first k r : ℕ) : Type 0 where
@@ -47,15 +45,9 @@ flagWeight Icfgr = 2
 abbrev pub shown : ℕ → ℕ → ℕ → ℕ
 shown place weight w = weight * (w / 2 ^ place % 2)
 
--- the records of a word stand side by side from the place `base` up: their fields, and what a write does to them
+-- the records of a word stand side by side from the place `base` up: their fields
 abbrev pub fieldIn : BitRegister → ℕ → List ℕ → ℕ → ℕ
 fieldIn register base s i = readField register (recordOf (getD s (base + i) 0))
-
-unfoldable pub writeRecord : BitRegister → ℕ → ℕ → ℕ → List ℕ → List ℕ
-writeRecord register at n x s = cond (acts register n x) (set s at (wordOf (act register x (recordOf (getD s at 0))))) s
-
-abbrev pub writeIn : BitRegister → ℕ → ℕ → ℕ → ℕ → List ℕ → List ℕ
-writeIn register base first value i s = writeRecord register (base + i) (first + i) (fieldAt (fieldBits register) i value) s
 
 pub record RunAt (register : BitRegister) (base there : ℕ) (s : List ℕ) : Type 0 where
   pub in-word : there ≤ perWord register

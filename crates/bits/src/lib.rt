@@ -1,13 +1,13 @@
 // The bit registers: one loop reads a word of any of them, one writes it.
 ghost use mathlib.Core.Path.{_≡_};
 ghost use Prim.Native.Nat.{_+_, _*_, _^_, _<_};
-ghost use lib.ListN.{length};
 ghost use Rattle.interrupt.specs.Record.{setTrigger};
 ghost use Rattle.word.specs.Word.{triggerOf};
-ghost use Rattle.state.specs.Loop.{upTo};
+ghost use Rattle.state.specs.Layout.{Placed};
+ghost use Rattle.state.specs.Words.{recordSlot, Reached};
 ghost use Rattle.word.specs.Fields.{fieldAt, gathered};
-ghost use Rattle.bits.specs.Bits.{isConfig, fieldBits, perWord, readBits, acts, clearActive, act, writeBits, BitWordAt};
-ghost use Rattle.bits.specs.Run.{Existing, FieldShift, RunAt, flagPlace, flagWeight, shown, fieldIn, writeRecord, writeIn};
+ghost use Rattle.bits.specs.Bits.{isConfig, fieldBits, perWord, readBits, acts, clearActive, act, writeNumber, writeBits, BitWordAt};
+ghost use Rattle.bits.specs.Run.{Existing, FieldShift, RunAt, flagPlace, flagWeight, shown, fieldIn};
 use interrupt::GicVcpuId;
 use interrupt::IntId;
 use interrupt::InterruptRecord;
@@ -16,8 +16,8 @@ use interrupt::TriggerMode;
 use register::BitRegister;
 use state::Shape;
 use state::layout::record_place;
+use state::words::put_record_at;
 use word::decode;
-use word::encode;
 
 // ICFGR has two bits for each number, the others one.
 fn is_config(register: BitRegister) -> bool
@@ -204,39 +204,26 @@ fn act(register: BitRegister, field: u32, record: InterruptRecord) -> InterruptR
     }
 }
 
-fn write_record(words: &mut [u32], at: usize, register: BitRegister, intid: IntId, field: u32)
-    requires { ⌜ at < length (now words) ⌝ }
-    ensures { λ r. ⌜ now (words .exit) ≡ writeRecord register at (intid .0) field (now (words .entry)) ⌝ }
+// The field of one number, whose record stands at `at`.
+fn write_number(
+    words: &mut [u32],
+    shape: Shape,
+    vcpu: GicVcpuId,
+    register: BitRegister,
+    intid: IntId,
+    at: usize,
+    field: u32,
+)
+    requires { ⌜ (Reached shape (vcpu .0) (intid .0) (now words)) × (Placed shape (recordSlot (vcpu .0) (intid .0)) at) ⌝ }
+    ensures { λ r. ⌜ now (words .exit) ≡ writeNumber shape register (vcpu .0) (intid .0) field (now (words .entry)) ⌝ }
 {
     if acts(register, intid, field) {
-        words[at] = encode(act(register, field, decode(words[at])));
+        let written = act(register, field, decode(words[at]));
+        put_record_at(words, shape, vcpu, intid, at, written);
     }
 }
 
-fn write_run(
-    words: &mut [u32],
-    base: usize,
-    register: BitRegister,
-    first: IntId,
-    value: u32,
-    there: u32,
-)
-    requires { ⌜ (RunAt register base there (now words)) × (first .0 < 1020) ⌝ }
-    ensures { λ r. ⌜ now (words .exit) ≡ upTo (writeIn register base (first .0) value) there (now (words .entry)) ⌝ }
-{
-    let mut i: u32 = 0;
-    while i < there {
-        write_record(
-            words,
-            base + i as usize,
-            register,
-            IntId(first.0 + i),
-            field_of(register, value, i),
-        );
-        i += 1;
-    }
-}
-
+// The records of a word stand side by side: the place of the first gives the others.
 pub fn write_bits(
     words: &mut [u32],
     shape: Shape,
@@ -253,5 +240,19 @@ pub fn write_bits(
     }
     let there = existing(shape, first, per_word(register));
     let base = record_place(shape, vcpu, first);
-    write_run(words, base, register, first, value, there);
+    let mut i: u32 = 0;
+    while i < there {
+        let field = field_of(register, value, i);
+        let intid = IntId(first.0 + i);
+        write_number(
+            words,
+            shape,
+            vcpu,
+            register,
+            intid,
+            base + i as usize,
+            field,
+        );
+        i += 1;
+    }
 }

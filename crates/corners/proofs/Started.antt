@@ -16,10 +16,10 @@ use Rattle.register.specs.Distributor.{firstNumber, isPrivate, placeAt, unfit, 
 use Rattle.register.specs.CpuInterface.{registers, registerIn, registerAt, locateCpuInterface}
 use Rattle.register.specs.Ranges.{ranges, rangeIn, rangeAt}
 use Rattle.state.specs.Loop.{upTo, everyBelow}
-use Rattle.state.specs.Fresh.{startOf, fresh}
+use Rattle.state.specs.Fresh.{fresh}
 use Rattle.state.specs.declared.layout.Shape.{Shape}
 use Rattle.state.specs.Layout.{size, interfaceOf, headerSlot, vcpuSlot, slotAt}
-use Rattle.state.specs.Words.{recordSlot}
+use Rattle.state.specs.Words.{recordSlot, startOf}
 use Rattle.state.specs.Lent.{inLimits, shaped, limited, validated}
 use Rattle.bits.specs.Bits.{readNumber, readBits, clearActive, writeNumber, writeBits}
 use Rattle.targets.specs.Targets.{readTarget, writeTarget}

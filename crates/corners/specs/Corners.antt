@@ -5,6 +5,7 @@ use Prim.Native.Nat.{ℕ, zero, suc, _^_, _-_}
 use lib.Dec.{eqb}
 use Rattle.register.specs.declared.frame.AccessWidth.{AccessWidth}
 use Rattle.register.specs.declared.frame.AccessWidth.the-variants.{Byte, Word, Dword, Qword}
+use Rattle.state.specs.Layout.{largestSize}
 use Rattle.answer.specs.Answer.{Outcome}
 use Rattle.history.specs.History.{Call, Setup, ReadDistributor, WriteDistributor, ReadCpuInterface, WriteCpuInterface, called}
 
@@ -41,7 +42,7 @@ setupRow c = row (Setup (c .count) (c .limit)) 0 0 0 1023
 
 -- each in as many words as any state takes
 abbrev pub lentWords : List ℕ
-lentWords = zeros 3447
+lentWords = zeros largestSize
 
 abbrev pub caseRight : Case → Bool
 caseRight c = right (setupRow c ∷ c .rows) lentWords

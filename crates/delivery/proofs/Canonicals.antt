@@ -10,6 +10,7 @@ use lib.Bits.{and-le-l}
 use lib.Dec.{eqb, ltb}
 use borrow.Author.Tests.{ltb-true}
 use Rattle.interrupt.specs.Record.{setPending}
+use Rattle.interrupt.specs.Types.{everyVcpu}
 use Rattle.interrupt.specs.declared.record.InterruptRecord.{InterruptRecord}
 use Rattle.register.specs.declared.«cpu_interface».CpuInterfaceRegister.{CpuInterfaceRegister}
 use Rattle.word.specs.Word.{wordOf, InRange}
@@ -18,17 +19,17 @@ use Rattle.word.proofs.RecordWord.{decoded-in-range}
 use Rattle.state.specs.declared.layout.Shape.{Shape}
 use Rattle.state.specs.declared.layout.InterfaceValue.the-variants.{Depth}
 use Rattle.state.specs.declared.words.Entry.{Entry}
-use Rattle.state.specs.Layout.{Interface, Sources, Stack, Exists, Room}
+use Rattle.state.specs.Layout.{Interface, Sources, Stack, Exists, Room, stackCapacity}
 use Rattle.state.specs.Words.{wordAt, recordSlot, RecordThere, recordAt, changed, sourcesAt, withInterface, withoutEntry, enabledAt, Canonical}
 use Rattle.state.proofs.Accessors.{put-room, put-same, put-other, record-exists}
 use Rattle.state.proofs.Canonical.{record-canonical, sources-canonical, interface-canonical, entry-canonical, cleared-canonical, depth-canonical}
 use Rattle.sgi.specs.Sgi.{mergedSources}
-use Rattle.select.proofs.Meaning.{best-is}
+use Rattle.select.specs.declared.Candidate.{Candidate}
 use Rattle.service.specs.Service.{depthAt, pushed, popped, Served, Sound}
 use Rattle.service.proofs.Soundness.{sound-served}
 use Rattle.service.proofs.Stacks.{pushed-room, popped-served}
-use Rattle.acknowledge.specs.Acknowledge.{sourceOf, pendIfLeft, withoutSource, sourceTaken, givenRecord, given, acknowledged, Givable}
-use Rattle.acknowledge.proofs.Offers.{offer-is}
+use Rattle.acknowledge.specs.Acknowledge.{sourceOf, pendIfLeft, withoutSource, sourceTaken, givenRecord, pushedFor, given, acknowledged, Givable}
+use Rattle.acknowledge.proofs.Offers.{pushed-byte}
 use Rattle.end.specs.End.{deactivated, ended}
 use Rattle.cpu_interface.specs.CpuInterface.{afterRead, writeRegister, readRegisterLooksUp, writeRegisterLooksUp}
 use Rattle.delivery.proofs.Answers.{acknowledged-cases}
@@ -45,7 +46,7 @@ module _ (shape : Shape) (v n : ℕ) (there : RecordThere shape v n) (f : Interr
 
 module _ (shape : Shape) (v : ℕ) (s : List ℕ) (h : Served shape v s) (c : Canonical shape s) where
   -- the depth first, then the entry below it
-  pub pushed-canonical : (e : Entry) → depthAt shape v s < 255 → e .priority .0 < 256 → Canonical shape (pushed shape v e s)
+  pub pushed-canonical : (e : Entry) → depthAt shape v s < stackCapacity → e .priority .0 < 256 → Canonical shape (pushed shape v e s)
   unfolding pushed
   pushed-canonical e room byte =
       let d : ℕ = depthAt shape v s in
@@ -59,7 +60,7 @@ module _ (shape : Shape) (v : ℕ) (s : List ℕ) (h : Served shape v s) (c : Ca
   unfolding popped
   popped-canonical some =
       let d : ℕ = depthAt shape v s - 1 in
-      let deep : depthAt shape v s ≤ 255 = h .deep in
+      let deep : depthAt shape v s ≤ stackCapacity = h .deep in
       let slot : Exists shape (Stack v d) = (h .exists, omega arith) in
       depth-canonical shape (withoutEntry shape v d s) (put-room shape s (Stack v d) 0 (h .state)) (cleared-canonical shape s (h .state) c v d slot) v d (h .exists)
       (λ i a b. same-or i d
@@ -92,29 +93,27 @@ module _ (shape : Shape) (v n source : ℕ) (there : RecordThere shape v n) (s :
           let sgi : n < 16 = ltb-true n 16 e in
           pend
           (sources-canonical shape s h c v n (mergedSources false (sourcesAt shape v n s) (2 ^ source)) (there .banked (omega arith), sgi)
-          (lt-of-le-of-lt (and-le-l (sourcesAt shape v n s) (255 - 2 ^ source)) (omega arith)))
+          (lt-of-le-of-lt (and-le-l (sourcesAt shape v n s) (everyVcpu - 2 ^ source)) (omega arith)))
           (eqb (sourcesAt shape v n after) 0)
       go false e = c
 
 module _ (shape : Shape) (v : ℕ) (s : List ℕ) (h : Served shape v s) (c : Canonical shape s) where
-  pub given-canonical : (e : Entry) → Givable shape v e s → e .priority .0 < 256 → Canonical shape (given shape v e s)
+  pub given-canonical : (e : Candidate) → Givable shape v e s → pushedFor e .priority .0 < 256 → Canonical shape (given shape v e s)
   unfolding given
   given-canonical e g byte =
       let n : ℕ = e .intid .0 in
       let there : RecordThere shape v n = record { numbered = g .numbered; banked = λ p. h .exists } in
       let few = h .state .limits .few-vcpus in
       let here : v < shape .count = h .exists in
-      let room = pushed-room shape v e s h (g .room) in
-      taken-canonical shape v n (sourceOf shape v n s) there (changed shape v n (givenRecord v) (pushed shape v e s))
-      (put-room shape (pushed shape v e s) (recordSlot v n) (wordOf (givenRecord v (recordAt shape v n (pushed shape v e s)))) room)
-      (changed-canonical shape v n there (givenRecord v) (λ r i. given-in-range v r (omega (arith, few, here)) i) (pushed shape v e s) room (pushed-canonical shape v s h c e (g .room) byte))
+      let room = pushed-room shape v (pushedFor e) s h (g .room) in
+      taken-canonical shape v n (sourceOf shape v n s) there (changed shape v n (givenRecord v) (pushed shape v (pushedFor e) s))
+      (put-room shape (pushed shape v (pushedFor e) s) (recordSlot v n) (wordOf (givenRecord v (recordAt shape v n (pushed shape v (pushedFor e) s)))) room)
+      (changed-canonical shape v n there (givenRecord v) (λ r i. given-in-range v r (omega (arith, few, here)) i) (pushed shape v (pushedFor e) s) room (pushed-canonical shape v s h c (pushedFor e) (g .room) byte))
 
   pub acknowledged-canonical : Canonical shape (acknowledged shape v s)
   acknowledged-canonical =
       acknowledged-cases shape v s h (Canonical shape) c
-      (λ e p g.
-      let byte = decoded-in-range (wordAt shape (recordSlot v (e .intid .0)) s) .priority-byte in
-      given-canonical e g (omega (arith, byte, best-is shape v s e (offer-is shape v s e p .best-one) .priority)))
+      (λ e p g. given-canonical e g (pushed-byte shape v s e p))
 
   pub ended-canonical : (n : ℕ) → Canonical shape (ended shape v n s)
   ended-canonical n =

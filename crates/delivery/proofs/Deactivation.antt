@@ -12,7 +12,7 @@ use Rattle.word.specs.Word.{recordOf, wordOf, InRange}
 use Rattle.word.proofs.RecordWord.{decoded-in-range}
 use Rattle.state.specs.declared.layout.Shape.{Shape}
 use Rattle.state.specs.declared.layout.InterfaceValue.the-variants.{Depth}
-use Rattle.state.specs.Layout.{Slot, Interface, Stack, Exists, Room}
+use Rattle.state.specs.Layout.{Slot, Interface, Stack, Exists, Room, stackCapacity}
 use Rattle.state.specs.Words.{wordAt, recordSlot, RecordThere, recordAt, changed}
 use Rattle.state.proofs.Accessors.{put-room, put-other, record-exists, record-same}
 use Rattle.state.proofs.SlotKinds.{apart-record}
@@ -57,11 +57,11 @@ module _ (shape : Shape) (v n : ℕ) (s : List ℕ) (h : Room shape s) (exists :
   pub deactivated-records : (u m : ℕ) → RecordThere shape u m → (recordSlot u m ≡ recordSlot v n → ⊥) → recordAt shape u m (deactivated shape v n s) ≡ recordAt shape u m s
   deactivated-records u m x apart = ap recordOf (deactivated-others (recordSlot u m) (record-exists shape u m x) apart)
 
-  pub deactivated-stacks : (u : ℕ) → u < shape .count → depthAt shape u s ≤ 255 → stackAt shape u (deactivated shape v n s) ≡ stackAt shape u s
+  pub deactivated-stacks : (u : ℕ) → u < shape .count → depthAt shape u s ≤ stackCapacity → stackAt shape u (deactivated shape v n s) ≡ stackAt shape u s
   deactivated-stacks u x deep =
       stack-same shape u s (deactivated shape v n s) deep
-      (deactivated-others (Interface u Depth) x (apart-record (Interface u Depth) v n (λ q. omega arith)))
-      (λ i b. deactivated-others (Stack u i) (x, b) (apart-record (Stack u i) v n (λ q. omega arith)))
+      (deactivated-others (Interface u Depth) x (apart-record (Interface u Depth) v n refl))
+      (λ i b. deactivated-others (Stack u i) (x, b) (apart-record (Stack u i) v n refl))
 
   -- its own record
   pub deactivated-record : n < shape .limit → recordAt shape v n (deactivated shape v n s) ≡ deactivate v (recordAt shape v n s)

@@ -11,7 +11,7 @@ use Rattle.word.specs.Word.{recordOf}
 use Rattle.state.specs.declared.layout.Shape.{Shape}
 use Rattle.state.specs.declared.layout.InterfaceValue.the-variants.{Depth}
 use Rattle.state.specs.declared.words.Entry.{Entry}
-use Rattle.state.specs.Layout.{Slot, Interface, Stack, Exists, Room}
+use Rattle.state.specs.Layout.{Slot, Interface, Stack, Exists, Room, stackCapacity}
 use Rattle.state.specs.Words.{wordAt, recordSlot, RecordThere, recordAt}
 use Rattle.state.proofs.Accessors.{record-exists}
 use Rattle.state.proofs.SlotKinds.{kinds-apart, record-apart, apart-record}
@@ -65,31 +65,31 @@ module _ (shape : Shape) (v n : ℕ) (s : List ℕ) (h : Served shape v s) where
     pub ended-stack : (e : Entry) (es : List Entry) → stackAt shape v s ≡ e ∷ es → stackAt shape v (ended shape v n s) ≡ es
     ended-stack e es p =
         let pop = popped-stack shape v s h some e es p in
-        let deep : depthAt shape v s ≤ 255 = h .deep in
-        let deep₁ : depthAt shape v (popped shape v s) ≤ 255 = rw (popped-depth shape v s h some) (omega arith) in
+        let deep : depthAt shape v s ≤ stackCapacity = h .deep in
+        let deep₁ : depthAt shape v (popped shape v s) ≤ stackCapacity = rw (popped-depth shape v s h some) (omega arith) in
         ended-cases (λ r. stackAt shape v r ≡ es) pop (deactivated-stacks shape v n (popped shape v s) room (h .exists) v (h .exists) deep₁ ∙ pop)
 
-    pub ended-stacks : (u : ℕ) → u < shape .count → (u ≡ v → ⊥) → depthAt shape u s ≤ 255 → stackAt shape u (ended shape v n s) ≡ stackAt shape u s
+    pub ended-stacks : (u : ℕ) → u < shape .count → (u ≡ v → ⊥) → depthAt shape u s ≤ stackCapacity → stackAt shape u (ended shape v n s) ≡ stackAt shape u s
     ended-stacks u x apart deep =
         stack-same shape u s (ended shape v n s) deep
-        (ended-others (Interface u Depth) x (apart-record (Interface u Depth) v n (λ q. omega arith)) (λ p. apart (cc)) (kinds-apart (Interface u Depth) (Stack v (depthAt shape v s - 1)) (λ q. omega arith)))
-        (λ i b. ended-others (Stack u i) (x, b) (apart-record (Stack u i) v n (λ q. omega arith)) (kinds-apart (Stack u i) (Interface v Depth) (λ q. omega arith)) (λ p. apart (cc)))
+        (ended-others (Interface u Depth) x (apart-record (Interface u Depth) v n refl) (λ p. apart (cc)) (kinds-apart (Interface u Depth) (Stack v (depthAt shape v s - 1)) refl))
+        (λ i b. ended-others (Stack u i) (x, b) (apart-record (Stack u i) v n refl) (kinds-apart (Stack u i) (Interface v Depth) refl) (λ p. apart (cc)))
 
     -- no record but its own
     pub ended-records : (u m : ℕ) → RecordThere shape u m → (recordSlot u m ≡ recordSlot v n → ⊥) → recordAt shape u m (ended shape v n s) ≡ recordAt shape u m s
     ended-records u m x apart =
         ap recordOf
         (ended-others (recordSlot u m) (record-exists shape u m x) apart
-        (record-apart u m (Interface v Depth) (λ q. omega arith))
-        (record-apart u m (Stack v (depthAt shape v s - 1)) (λ q. omega arith)))
+        (record-apart u m (Interface v Depth) refl)
+        (record-apart u m (Stack v (depthAt shape v s - 1)) refl))
 
     -- its own, as it stood before the pop
     old-word : n < shape .limit → wordAt shape (recordSlot v n) (popped shape v s) ≡ wordAt shape (recordSlot v n) s
     old-word b =
         let x : RecordThere shape v n = record { numbered = b; banked = λ c. h .exists } in
         popped-others shape v s h some (recordSlot v n) (record-exists shape v n x)
-        (record-apart v n (Interface v Depth) (λ q. omega arith))
-        (record-apart v n (Stack v (depthAt shape v s - 1)) (λ q. omega arith))
+        (record-apart v n (Interface v Depth) refl)
+        (record-apart v n (Stack v (depthAt shape v s - 1)) refl)
 
     pub ended-record : eoiMode shape v s ≡ false → n < shape .limit → recordAt shape v n (ended shape v n s) ≡ deactivate v (recordAt shape v n s)
     ended-record off b =

@@ -10,20 +10,21 @@ use lib.Bits.{and-le-l}
 use lib.Dec.{eqb, ltb}
 use borrow.Author.Tests.{lt-ltb, le-ltb, ltb-true}
 use Rattle.interrupt.specs.Record.{markInflight, setOwner, setState, synchronizeInflight, setPending}
+use Rattle.interrupt.specs.Types.{everyVcpu}
 use Rattle.interrupt.specs.declared.record.InterruptRecord.{InterruptRecord}
-use Rattle.word.specs.Word.{recordOf, wordOf, InRange}
+use Rattle.word.specs.Word.{recordOf, wordOf, InRange, ownersHeld}
 use Rattle.word.proofs.RecordWord.{decoded-in-range}
 use Rattle.state.specs.declared.layout.Shape.{Shape}
 use Rattle.state.specs.declared.layout.InterfaceValue.the-variants.{Depth}
-use Rattle.state.specs.declared.words.Entry.{Entry}
-use Rattle.state.specs.Layout.{Slot, Interface, Sources, Stack, Exists, Room}
+use Rattle.state.specs.Layout.{Slot, Interface, Sources, Stack, Exists, Room, stackCapacity}
 use Rattle.state.specs.Words.{wordAt, put, entryWord, recordSlot, RecordThere, recordAt, changed, sourcesAt, withSources}
 use Rattle.state.proofs.Accessors.{put-room, put-other, put-comm, record-exists, record-same, sources-same}
 use Rattle.state.proofs.SlotKinds.{kinds-apart, record-apart, apart-record}
 use Rattle.sgi.specs.Sgi.{mergedSources}
+use Rattle.select.specs.declared.Candidate.{Candidate}
 use Rattle.service.specs.Service.{depthAt, stackAt, pushed}
 use Rattle.service.proofs.Stacks.{stack-same, pushed-room, pushed-others, pushed-depth, pushed-stack}
-use Rattle.acknowledge.specs.Acknowledge.{lowestSource, sourceOf, pendIfLeft, withoutSource, sourceTaken, givenRecord, given, Givable}
+use Rattle.acknowledge.specs.Acknowledge.{lowestSource, sourceOf, pendIfLeft, withoutSource, sourceTaken, givenRecord, pushedFor, given, Givable}
 
 -- a source taken touches its SGI's sources and record alone
 module _ (shape : Shape) (v n source : ℕ) (there : RecordThere shape v n) where
@@ -67,19 +68,19 @@ module _ (shape : Shape) (v n source : ℕ) (there : RecordThere shape v n) wher
       go true = pend (eqb (sourcesAt shape v n after) 0)
       go false = h
 
-module _ (shape : Shape) (v : ℕ) (e : Entry) (s : List ℕ) (g : Givable shape v e s) where
+module _ (shape : Shape) (v : ℕ) (e : Candidate) (s : List ℕ) (g : Givable shape v e s) where
   there : RecordThere shape v (e .intid .0)
   there = record { numbered = g .numbered; banked = λ b. g .served .exists }
 
   -- the steps in document 01's order, in which the record is marked before the push
-  pub given-in-order : given shape v e s ≡ sourceTaken shape v (e .intid .0) (sourceOf shape v (e .intid .0) s) (pushed shape v e (changed shape v (e .intid .0) (givenRecord v) s))
+  pub given-in-order : given shape v e s ≡ sourceTaken shape v (e .intid .0) (sourceOf shape v (e .intid .0) s) (pushed shape v (pushedFor e) (changed shape v (e .intid .0) (givenRecord v) s))
   unfolding given pushed
   given-in-order =
       ap (sourceTaken shape v n (sourceOf shape v n s))
-      (ap (λ (x : ℕ). put shape slot (wordOf (givenRecord v (recordOf x))) (pushed shape v e s)) (pushed-others shape v e s (g .served) (g .room) slot it off-depth off-stack)
-      ∙ put-comm shape (put shape depth (d + 1) s) (Stack v d) slot (entryWord e) marked (g .served .exists, g .room) it (λ p. off-stack (sym p))
-      ∙ ap (put shape (Stack v d) (entryWord e)) (put-comm shape s depth slot (d + 1) marked (g .served .exists) it (λ p. off-depth (sym p)))
-      ∙ ap (λ (x : ℕ). put shape (Stack v x) (entryWord e) (put shape depth (x + 1) (put shape slot marked s))) (sym (put-other shape s depth slot marked (g .served .exists) it (λ p. off-depth (sym p)))))
+      (ap (λ (x : ℕ). put shape slot (wordOf (givenRecord v (recordOf x))) (pushed shape v (pushedFor e) s)) (pushed-others shape v (pushedFor e) s (g .served) (g .room) slot it off-depth off-stack)
+      ∙ put-comm shape (put shape depth (d + 1) s) (Stack v d) slot (entryWord (pushedFor e)) marked (g .served .exists, g .room) it (λ p. off-stack (sym p))
+      ∙ ap (put shape (Stack v d) (entryWord (pushedFor e))) (put-comm shape s depth slot (d + 1) marked (g .served .exists) it (λ p. off-depth (sym p)))
+      ∙ ap (λ (x : ℕ). put shape (Stack v x) (entryWord (pushedFor e)) (put shape depth (x + 1) (put shape slot marked s))) (sym (put-other shape s depth slot marked (g .served .exists) it (λ p. off-depth (sym p)))))
     where
       n : ℕ
       n = e .intid .0
@@ -100,70 +101,70 @@ module _ (shape : Shape) (v : ℕ) (e : Entry) (s : List ℕ) (g : Givable shape
       it = record-exists shape v n there
 
       off-depth : slot ≡ depth → ⊥
-      off-depth = record-apart v n depth (λ p. absurd (omega (arith, p)))
+      off-depth = record-apart v n depth refl
 
       off-stack : slot ≡ Stack v d → ⊥
-      off-stack = record-apart v n (Stack v d) (λ p. absurd (omega (arith, p)))
+      off-stack = record-apart v n (Stack v d) refl
 
   -- after the push only the record and the sources change
-  after-push : (t : Slot) → Exists shape t → (t ≡ recordSlot v (e .intid .0) → ⊥) → (t ≡ Sources v (e .intid .0) → ⊥) → wordAt shape t (given shape v e s) ≡ wordAt shape t (pushed shape v e s)
+  after-push : (t : Slot) → Exists shape t → (t ≡ recordSlot v (e .intid .0) → ⊥) → (t ≡ Sources v (e .intid .0) → ⊥) → wordAt shape t (given shape v e s) ≡ wordAt shape t (pushed shape v (pushedFor e) s)
   unfolding given
   after-push t x no-record no-sources =
-      let before = changed shape v (e .intid .0) (givenRecord v) (pushed shape v e s) in
+      let before = changed shape v (e .intid .0) (givenRecord v) (pushed shape v (pushedFor e) s) in
       source-others shape v (e .intid .0) (sourceOf shape v (e .intid .0) s) there before t x no-record no-sources
-      ∙ put-other shape (pushed shape v e s) t (recordSlot v (e .intid .0)) (wordOf (givenRecord v (recordAt shape v (e .intid .0) (pushed shape v e s)))) x (record-exists shape v (e .intid .0) there) no-record
+      ∙ put-other shape (pushed shape v (pushedFor e) s) t (recordSlot v (e .intid .0)) (wordOf (givenRecord v (recordAt shape v (e .intid .0) (pushed shape v (pushedFor e) s)))) x (record-exists shape v (e .intid .0) there) no-record
 
   pub given-room : Room shape (given shape v e s)
   unfolding given
   given-room =
-      let before = changed shape v (e .intid .0) (givenRecord v) (pushed shape v e s) in
+      let before = changed shape v (e .intid .0) (givenRecord v) (pushed shape v (pushedFor e) s) in
       source-room shape v (e .intid .0) (sourceOf shape v (e .intid .0) s) there before
-      (put-room shape (pushed shape v e s) (recordSlot v (e .intid .0)) (wordOf (givenRecord v (recordAt shape v (e .intid .0) (pushed shape v e s)))) (pushed-room shape v e s (g .served) (g .room)))
+      (put-room shape (pushed shape v (pushedFor e) s) (recordSlot v (e .intid .0)) (wordOf (givenRecord v (recordAt shape v (e .intid .0) (pushed shape v (pushedFor e) s)))) (pushed-room shape v (pushedFor e) s (g .served) (g .room)))
 
   -- every other slot stays
   pub given-others : (t : Slot) → Exists shape t → (t ≡ recordSlot v (e .intid .0) → ⊥) → (t ≡ Sources v (e .intid .0) → ⊥) → (t ≡ Interface v Depth → ⊥) → (t ≡ Stack v (depthAt shape v s) → ⊥)
       → wordAt shape t (given shape v e s) ≡ wordAt shape t s
   given-others t x no-record no-sources no-depth no-entry =
-      after-push t x no-record no-sources ∙ pushed-others shape v e s (g .served) (g .room) t x no-depth no-entry
+      after-push t x no-record no-sources ∙ pushed-others shape v (pushedFor e) s (g .served) (g .room) t x no-depth no-entry
 
   pub given-depth : depthAt shape v (given shape v e s) ≡ depthAt shape v s + 1
   given-depth =
-      after-push (Interface v Depth) (g .served .exists) (apart-record (Interface v Depth) v (e .intid .0) (λ q. omega arith)) (kinds-apart (Interface v Depth) (Sources v (e .intid .0)) (λ q. omega arith))
-      ∙ pushed-depth shape v e s (g .served) (g .room)
+      after-push (Interface v Depth) (g .served .exists) (apart-record (Interface v Depth) v (e .intid .0) refl) (kinds-apart (Interface v Depth) (Sources v (e .intid .0)) refl)
+      ∙ pushed-depth shape v (pushedFor e) s (g .served) (g .room)
 
   pub given-depths : (u : ℕ) → u < shape .count → (u ≡ v → ⊥) → depthAt shape u (given shape v e s) ≡ depthAt shape u s
   given-depths u x apart =
-      given-others (Interface u Depth) x (apart-record (Interface u Depth) v (e .intid .0) (λ q. omega arith)) (kinds-apart (Interface u Depth) (Sources v (e .intid .0)) (λ q. omega arith))
-      (λ p. apart (cc)) (kinds-apart (Interface u Depth) (Stack v (depthAt shape v s)) (λ q. omega arith))
+      given-others (Interface u Depth) x (apart-record (Interface u Depth) v (e .intid .0) refl) (kinds-apart (Interface u Depth) (Sources v (e .intid .0)) refl)
+      (λ p. apart (cc)) (kinds-apart (Interface u Depth) (Stack v (depthAt shape v s)) refl)
 
   -- no record but the one given
   pub given-records : (u m : ℕ) → RecordThere shape u m → (recordSlot u m ≡ recordSlot v (e .intid .0) → ⊥) → recordAt shape u m (given shape v e s) ≡ recordAt shape u m s
   given-records u m x no-record =
       ap recordOf
       (given-others (recordSlot u m) (record-exists shape u m x) no-record
-      (record-apart u m (Sources v (e .intid .0)) (λ p. omega arith))
-      (record-apart u m (Interface v Depth) (λ p. omega arith))
-      (record-apart u m (Stack v (depthAt shape v s)) (λ p. omega arith)))
+      (record-apart u m (Sources v (e .intid .0)) refl)
+      (record-apart u m (Interface v Depth) refl)
+      (record-apart u m (Stack v (depthAt shape v s)) refl))
 
   -- the old stack with the new entry
-  pub given-stack : e .intid .0 < 1024 → e .priority .0 < 256 → stackAt shape v (given shape v e s) ≡ e ∷ stackAt shape v s
+  pub given-stack : e .intid .0 < 1024 → pushedFor e .priority .0 < 256 → stackAt shape v (given shape v e s) ≡ pushedFor e ∷ stackAt shape v s
   given-stack a b =
-      let deeper = pushed-depth shape v e s (g .served) (g .room) in
-      let room : depthAt shape v s < 255 = g .room in
-      stack-same shape v (pushed shape v e s) (given shape v e s) (rw deeper (omega arith))
-      (after-push (Interface v Depth) (g .served .exists) (apart-record (Interface v Depth) v (e .intid .0) (λ q. omega arith)) (kinds-apart (Interface v Depth) (Sources v (e .intid .0)) (λ q. omega arith)))
-      (λ i c. after-push (Stack v i) (g .served .exists, c) (apart-record (Stack v i) v (e .intid .0) (λ q. omega arith)) (kinds-apart (Stack v i) (Sources v (e .intid .0)) (λ q. omega arith)))
-      ∙ pushed-stack shape v e s (g .served) (g .room) a b
+      let deeper = pushed-depth shape v (pushedFor e) s (g .served) (g .room) in
+      let room : depthAt shape v s < stackCapacity = g .room in
+      stack-same shape v (pushed shape v (pushedFor e) s) (given shape v e s) (rw deeper (omega arith))
+      (after-push (Interface v Depth) (g .served .exists) (apart-record (Interface v Depth) v (e .intid .0) refl) (kinds-apart (Interface v Depth) (Sources v (e .intid .0)) refl))
+      (λ i c. after-push (Stack v i) (g .served .exists, c) (apart-record (Stack v i) v (e .intid .0) refl) (kinds-apart (Stack v i) (Sources v (e .intid .0)) refl))
+      ∙ pushed-stack shape v (pushedFor e) s (g .served) (g .room) a b
 
   -- and what the others have under service
-  pub given-stacks : (u : ℕ) → u < shape .count → (u ≡ v → ⊥) → depthAt shape u s ≤ 255 → stackAt shape u (given shape v e s) ≡ stackAt shape u s
+  pub given-stacks : (u : ℕ) → u < shape .count → (u ≡ v → ⊥) → depthAt shape u s ≤ stackCapacity → stackAt shape u (given shape v e s) ≡ stackAt shape u s
   given-stacks u x apart deep =
       stack-same shape u s (given shape v e s) deep (given-depths u x apart)
-      (λ i c. given-others (Stack u i) (x, c) (apart-record (Stack u i) v (e .intid .0) (λ q. omega arith)) (kinds-apart (Stack u i) (Sources v (e .intid .0)) (λ q. omega arith))
-      (kinds-apart (Stack u i) (Interface v Depth) (λ q. omega arith)) (λ p. apart (cc)))
+      (λ i c. given-others (Stack u i) (x, c) (apart-record (Stack u i) v (e .intid .0) refl) (kinds-apart (Stack u i) (Sources v (e .intid .0)) refl)
+      (kinds-apart (Stack u i) (Interface v Depth) refl) (λ p. apart (cc)))
 
 -- a record given is one that a word can hold
-pub given-in-range : (v : ℕ) (r : InterruptRecord) → v < 255 → InRange r → InRange (givenRecord v r)
+pub given-in-range : (v : ℕ) (r : InterruptRecord) → v < ownersHeld → InRange r → InRange (givenRecord v r)
 unfolding givenRecord synchronizeInflight setState setOwner markInflight
 given-in-range v r h i = record { priority-byte = i .priority-byte; mask-byte = i .mask-byte; owner-byte = h }
 
@@ -177,7 +178,7 @@ module _ (shape : Shape) (v n : ℕ) (s : List ℕ) (h : Room shape s) (x : Exis
   sgi-there = record { numbered = omega arith; banked = λ b. x .0 }
 
   pended-sources : sourcesAt shape v n (pendIfLeft shape v n s) ≡ sourcesAt shape v n s
-  pended-sources = ap (λ (w : ℕ). w % 256) (pended-others shape v n 0 sgi-there s (Sources v n) x (apart-record (Sources v n) v n (λ q. omega arith)))
+  pended-sources = ap (λ (w : ℕ). w % 256) (pended-others shape v n 0 sgi-there s (Sources v n) x (apart-record (Sources v n) v n refl))
 
   pended-record : recordAt shape v n (pendIfLeft shape v n s) ≡ cond (eqb (sourcesAt shape v n s) 0) (recordAt shape v n s) (setPending (recordAt shape v n s) true)
   unfolding pendIfLeft
@@ -189,26 +190,26 @@ module _ (shape : Shape) (v n : ℕ) (s : List ℕ) (h : Room shape s) (x : Exis
           let r = recordAt shape v n s in
           record-same shape s v n (setPending r true) h (record-exists shape v n sgi-there) (pending-in-range r (decoded-in-range (wordAt shape (recordSlot v n) s)))
 
-module _ (shape : Shape) (v : ℕ) (e : Entry) (s : List ℕ) (g : Givable shape v e s) where
+module _ (shape : Shape) (v : ℕ) (e : Candidate) (s : List ℕ) (g : Givable shape v e s) where
   -- the record after the push and the marks
   marked : List ℕ
-  marked = changed shape v (e .intid .0) (givenRecord v) (pushed shape v e s)
+  marked = changed shape v (e .intid .0) (givenRecord v) (pushed shape v (pushedFor e) s)
 
-  old-record : recordAt shape v (e .intid .0) (pushed shape v e s) ≡ recordAt shape v (e .intid .0) s
+  old-record : recordAt shape v (e .intid .0) (pushed shape v (pushedFor e) s) ≡ recordAt shape v (e .intid .0) s
   old-record =
       ap recordOf
-      (pushed-others shape v e s (g .served) (g .room) (recordSlot v (e .intid .0)) (record-exists shape v (e .intid .0) (there shape v e s g))
-      (record-apart v (e .intid .0) (Interface v Depth) (λ p. omega arith))
-      (record-apart v (e .intid .0) (Stack v (depthAt shape v s)) (λ p. omega arith)))
+      (pushed-others shape v (pushedFor e) s (g .served) (g .room) (recordSlot v (e .intid .0)) (record-exists shape v (e .intid .0) (there shape v e s g))
+      (record-apart v (e .intid .0) (Interface v Depth) refl)
+      (record-apart v (e .intid .0) (Stack v (depthAt shape v s)) refl))
 
   marked-record : recordAt shape v (e .intid .0) marked ≡ givenRecord v (recordAt shape v (e .intid .0) s)
   unfolding marked
   marked-record =
-      let r = recordAt shape v (e .intid .0) (pushed shape v e s) in
+      let r = recordAt shape v (e .intid .0) (pushed shape v (pushedFor e) s) in
       let few = g .served .state .limits .few-vcpus in
       let here : v < shape .count = g .served .exists in
-      record-same shape (pushed shape v e s) v (e .intid .0) (givenRecord v r) (pushed-room shape v e s (g .served) (g .room)) (record-exists shape v (e .intid .0) (there shape v e s g))
-      (given-in-range v r (omega (arith, few, here)) (decoded-in-range (wordAt shape (recordSlot v (e .intid .0)) (pushed shape v e s))))
+      record-same shape (pushed shape v (pushedFor e) s) v (e .intid .0) (givenRecord v r) (pushed-room shape v (pushedFor e) s (g .served) (g .room)) (record-exists shape v (e .intid .0) (there shape v e s g))
+      (given-in-range v r (omega (arith, few, here)) (decoded-in-range (wordAt shape (recordSlot v (e .intid .0)) (pushed shape v (pushedFor e) s))))
       ∙ ap (givenRecord v) old-record
 
   -- an interrupt that is no SGI
@@ -229,17 +230,17 @@ module _ (shape : Shape) (v : ℕ) (e : Entry) (s : List ℕ) (g : Givable shape
     old-sources =
         let n : ℕ = e .intid .0 in
         ap (λ (w : ℕ). w % 256)
-        (put-other shape (pushed shape v e s) (Sources v n) (recordSlot v n) (wordOf (givenRecord v (recordAt shape v n (pushed shape v e s)))) here (record-exists shape v n (there shape v e s g))
-        (apart-record (Sources v n) v n (λ q. omega arith))
-        ∙ pushed-others shape v e s (g .served) (g .room) (Sources v n) here (kinds-apart (Sources v n) (Interface v Depth) (λ q. omega arith)) (kinds-apart (Sources v n) (Stack v (depthAt shape v s)) (λ q. omega arith)))
+        (put-other shape (pushed shape v (pushedFor e) s) (Sources v n) (recordSlot v n) (wordOf (givenRecord v (recordAt shape v n (pushed shape v (pushedFor e) s)))) here (record-exists shape v n (there shape v e s g))
+        (apart-record (Sources v n) v n refl)
+        ∙ pushed-others shape v (pushedFor e) s (g .served) (g .room) (Sources v n) here (kinds-apart (Sources v n) (Interface v Depth) refl) (kinds-apart (Sources v n) (Stack v (depthAt shape v s)) refl))
 
     left-fits : left < 256
     unfolding left
-    left-fits = lt-of-le-of-lt (and-le-l (sourcesAt shape v (e .intid .0) s) (255 - 2 ^ lowestSource (sourcesAt shape v (e .intid .0) s))) (omega arith)
+    left-fits = lt-of-le-of-lt (and-le-l (sourcesAt shape v (e .intid .0) s) (everyVcpu - 2 ^ lowestSource (sourcesAt shape v (e .intid .0) s))) (omega arith)
 
     marked-room : Room shape marked
     unfolding marked
-    marked-room = put-room shape (pushed shape v e s) (recordSlot v (e .intid .0)) (wordOf (givenRecord v (recordAt shape v (e .intid .0) (pushed shape v e s)))) (pushed-room shape v e s (g .served) (g .room))
+    marked-room = put-room shape (pushed shape v (pushedFor e) s) (recordSlot v (e .intid .0)) (wordOf (givenRecord v (recordAt shape v (e .intid .0) (pushed shape v (pushedFor e) s)))) (pushed-room shape v (pushedFor e) s (g .served) (g .room))
 
     given-is : given shape v e s ≡ pendIfLeft shape v (e .intid .0) (withSources shape v (e .intid .0) left marked)
     unfolding given sourceTaken sourceOf left marked
@@ -260,6 +261,6 @@ module _ (shape : Shape) (v : ℕ) (e : Entry) (s : List ℕ) (g : Givable shape
         let before = withSources shape v n left marked in
         let room = put-room shape marked (Sources v n) left marked-room in
         let kept : recordAt shape v n before ≡ givenRecord v (recordAt shape v n s) =
-        ap recordOf (put-other shape marked (recordSlot v n) (Sources v n) left (record-exists shape v n (there shape v e s g)) here (record-apart v n (Sources v n) (λ q. omega arith))) ∙ marked-record in
+        ap recordOf (put-other shape marked (recordSlot v n) (Sources v n) left (record-exists shape v n (there shape v e s g)) here (record-apart v n (Sources v n) refl)) ∙ marked-record in
         let same : sourcesAt shape v n (given shape v e s) ≡ sourcesAt shape v n before = ap (sourcesAt shape v n) given-is ∙ pended-sources shape v n before room here in
         rw same (ap (recordAt shape v n) given-is ∙ pended-record shape v n before room here ∙ ap (λ (r : InterruptRecord). cond (eqb (sourcesAt shape v n before) 0) r (setPending r true)) kept)

@@ -41,14 +41,14 @@ OffDepths v Ends = Unit
 OffDepths v Deactivates = Unit
 
 off-depths : (v : ℕ) (register : CpuInterfaceRegister) → OffDepths v (ruleOf register .writes)
-off-depths v Ctlr = tt
-off-depths v Pmr = tt
-off-depths v Bpr = tt
+off-depths v Ctlr = refl
+off-depths v Pmr = refl
+off-depths v Bpr = refl
 off-depths v Iar = tt
 off-depths v Eoir = tt
 off-depths v Rpr = tt
 off-depths v Hppir = tt
-off-depths v Abpr = tt
+off-depths v Abpr = refl
 off-depths v Aiar = tt
 off-depths v Aeoir = tt
 off-depths v Ahppir = tt

@@ -16,7 +16,7 @@ use Rattle.state.specs.Layout.{Slot, Exists, Limits, Room}
 use Rattle.state.specs.Words.{wordAt}
 use Rattle.state.proofs.Accessors.{record-exists}
 use Rattle.state.proofs.Numbers.{Of, if-local, changed-local, run-written, run-others}
-use Rattle.state.proofs.Steps.{Agree, Local, steps-room}
+use Rattle.state.proofs.Steps.{slots, Agree, Local, steps-room}
 use Rattle.state.proofs.Tests.{left-true, right-true, not-below}
 use Rattle.targets.specs.Targets.{existingBits, writeTarget}
 use Rattle.sgi.proofs.Rings.{write-local}
@@ -59,8 +59,8 @@ module _ (shape : Shape) (register : ByteRegister) (v first count value : ℕ) (
   pub bytes-others : (t : Slot) → Exists shape t → ((i : ℕ) → i < count → Of v (first + i) t → ⊥)
       → wordAt shape t (writeBytes shape register v first count value s) ≡ wordAt shape t s
   unfolding writeBytes
-  bytes-others t e away = run-others shape v first count (λ j. writeByte shape register v (first + j) (fieldAt 8 j value)) s step t e away
+  bytes-others t e away = run-others shape v first count (λ j. writeByte shape register v (first + j) (fieldAt 8 j value)) s step (at .state) t e away
 
   pub bytes-room : Room shape (writeBytes shape register v first count value s)
   unfolding writeBytes
-  bytes-room = steps-room shape (λ j. Of v (first + j)) (λ j. writeByte shape register v (first + j) (fieldAt 8 j value)) count s step (at .state)
+  bytes-room = steps-room (slots shape) (λ j. Of v (first + j)) (λ j. writeByte shape register v (first + j) (fieldAt 8 j value)) count s step (at .state)

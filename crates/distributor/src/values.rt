@@ -3,22 +3,21 @@ ghost use mathlib.Core.Path.{_≡_};
 ghost use Rattle.state.specs.Layout.{Limits, Room};
 ghost use Rattle.distributor.specs.Values.{readControl, writeControl, typer, iidr};
 use state::Shape;
-use state::words::distributor_enabled;
-use state::words::enable_distributor;
-use word::bit;
+use state::words::distributor_control;
+use state::words::put_distributor_control;
 
 pub fn read_control(words: &[u32], shape: Shape) -> u32
     requires { ⌜ Room shape (now words) ⌝ }
     ensures { λ r. ⌜ r ≡ readControl shape (now (words .entry)) ⌝ }
 {
-    bit(distributor_enabled(words, shape))
+    distributor_control(words, shape)
 }
 
 pub fn write_control(words: &mut [u32], shape: Shape, value: u32)
     requires { ⌜ Room shape (now words) ⌝ }
     ensures { λ r. ⌜ now (words .exit) ≡ writeControl shape value (now (words .entry)) ⌝ }
 {
-    enable_distributor(words, shape, value % 2 == 1);
+    put_distributor_control(words, shape, value);
 }
 
 pub fn typer(shape: Shape) -> u32

@@ -1,7 +1,7 @@
 -- Demand 3: "Take a fresh controller and any sequence of calls, refused ones included, each acting as demand 2 defines it." What is here
 -- is about the words that the calls leave, for every count and limit that setup accepts, whatever the lent words held before. Assumes nothing.
 use mathlib.Core.Path.{_≡_, refl, sym, subst, _∙_}
-use mathlib.Core.Bool.{Bool, true, false, not, cond}
+use mathlib.Core.Bool.{Bool, true, false, not, cond, true≢false}
 use mathlib.Core.List.{List, [], _∷_}
 use Prim.Native.Nat.{ℕ, _≤_, _<_}
 use native.Mathlib.Omega.{arith}
@@ -15,7 +15,7 @@ use Rattle.state.specs.declared.layout.Shape.{Shape}
 use Rattle.state.specs.declared.lent.Limited.{Limited}
 use Rattle.state.specs.declared.lent.Limited.the-variants.{Within, Outside}
 use Rattle.state.specs.Fresh.{fresh}
-use Rattle.state.specs.Layout.{size}
+use Rattle.state.specs.Layout.{size, stackCapacity}
 use Rattle.state.specs.Lent.{limited, shaped}
 use Rattle.state.specs.Words.{enabledAt}
 use Rattle.state.proofs.Tests.{left-true, right-true}
@@ -26,21 +26,21 @@ use Rattle.answer.specs.Answer.{Outcome, refused, gave}
 use Rattle.controller.specs.Start.{setupOf, setup}
 use Rattle.cpu_interface_frame.specs.CpuInterfaceFrame.{readAnswer}
 use Rattle.lawful.specs.Lawful.{Orderly, Controls, Controller}
-use Rattle.lawful.proofs.Depths.{at-most-255, offer-room}
+use Rattle.lawful.proofs.Depths.{at-most-capacity, offer-room}
 use Rattle.lawful.proofs.Starting.{fresh-controls}
 use Rattle.moves.proofs.Acknowledges.{each-acknowledge}
-use Rattle.moves.proofs.Controllers.{chain-controls, chain-keeps}
+use Rattle.moves.proofs.Controllers.{chain-controls}
 use Rattle.moves.proofs.Sounds.{lawful-sound}
-use Rattle.history.specs.History.{Call, Setup, isSetup, called, run, answers, noSetup, Accepted, Ordinary, Each}
+use Rattle.history.specs.History.{Call, Setup, Deed, Starts, deed, isSetup, called, run, answers, noSetup, Accepted, Ordinary, Each}
 use Rattle.history.proofs.Calls.{call-chain}
-use Rattle.history.proofs.Each.{few, Refusable, setup-or-other, valid, each-call}
+use Rattle.history.proofs.Each.{few, Refusable, some-refusal, start-or-act, setup-or-other, valid, each-call}
 
 -- setup: refused, with nothing changed, or a fresh state of that count and limit
 module _ (count limit : ℕ) (s : List ℕ) (P : Outcome → Type 0)
-    (refuses : (r : Refusal) → Refusable (Setup count limit) (refusalNumber r) → (refusalNumber r ≡ 0 → ⊥) → P (refused r s))
+    (refuses : (r : Refusal) → Refusable (Setup count limit) (refusalNumber r) → P (refused r s))
     (starts : Controls (shaped count limit) (fresh (shaped count limit) s) → P (gave 0 (fresh (shaped count limit) s))) where
   fits : (l : Limited) → limited count limit ≡ l → P (setupOf l s)
-  fits Outside p = refuses refusal.Limits (record { ordinary = few (omega arith); of-call = refl }) (λ e. absurd (omega (arith, e)))
+  fits Outside p = refuses refusal.Limits (record { ordinary = few (omega arith); of-call = refl })
   fits (Within shape) p = subst (λ (k : Shape). P (setupOf (Within k) s)) (sym same) (go (leb (size own) (length s)) refl)
     where
       own : Shape
@@ -51,16 +51,33 @@ module _ (count limit : ℕ) (s : List ℕ) (P : Outcome → Type 0)
 
       go : (b : Bool) → leb (size own) (length s) ≡ b → P (cond b (gave 0 (fresh own s)) (refused refusal.ShortState s))
       go true e = starts (fresh-controls own s (record { limits = subst Rattle.state.specs.Layout.Limits same (limited-limits count limit shape p); room = leb-true (size own) (length s) e }))
-      go false e = refuses refusal.ShortState (record { ordinary = few (omega arith); of-call = refl }) (λ q. absurd (omega (arith, q)))
+      go false e = refuses refusal.ShortState (record { ordinary = few (omega arith); of-call = refl })
 
   pub setup-cases : P (called (Setup count limit) s)
   unfolding setup
   setup-cases = fits (limited count limit) refl
 
+-- every call that starts one anew, so: it is refused, with nothing changed, or leaves a controller of that count and limit
+pub each-start : (s : List ℕ) (P : Call → Deed → Outcome → Type 0)
+    → ((c : Call) (d : Deed) (r : Refusal) → Refusable c (refusalNumber r) → P c d (refused r s))
+    → ((c : Call) (count limit : ℕ) (after : List ℕ) → Controls (shaped count limit) after → P c (Starts count limit) (gave 0 after))
+    → (c : Call) → isSetup c ≡ true → P c (deed c) (called c s)
+each-start s P refuses starts =
+    setup-or-other (λ c. isSetup c ≡ true → P c (deed c) (called c s))
+    (λ count limit e.
+    let c : Call = Setup count limit in
+    setup-cases count limit s (P c (Starts count limit)) (λ r may. refuses c (Starts count limit) r may) (starts c count limit (fresh (shaped count limit) s)))
+    (λ c other e. absurd (true≢false (sym e ∙ other)))
+
 -- "a fresh controller": what an accepted setup leaves, whatever the words held
 pub a-fresh-controller : (count limit : ℕ) (s : List ℕ) → Accepted count limit s → Controls (shaped count limit) (called (Setup count limit) s .state)
 a-fresh-controller count limit s =
-    setup-cases count limit s (λ o. o .refusal ≡ 0 → Controls (shaped count limit) (o .state)) (λ r may no e. absurd (no e)) (λ controls e. controls)
+    setup-cases count limit s (λ o. o .refusal ≡ 0 → Controls (shaped count limit) (o .state)) (λ r may e. absurd (some-refusal r e)) (λ controls e. controls)
+
+-- and every call that starts one, if it is accepted
+pub a-started-controller : (c : Call) (s : List ℕ) → isSetup c ≡ true → called c s .refusal ≡ 0 → Controller (called c s .state)
+a-started-controller c s =
+    each-start s (λ d k o. o .refusal ≡ 0 → Controller (o .state)) (λ d k r may e. absurd (some-refusal r e)) (λ d count limit after controls e. record { shape = shaped count limit; controls = controls }) c
 
 -- every call keeps a controller, of its count and limit if it is no setup
 pub every-other-call : (shape : Shape) (c : Call) → isSetup c ≡ false → (s : List ℕ) → Controls shape s → Controls shape (called c s .state)
@@ -68,8 +85,8 @@ every-other-call shape c e s h = chain-controls (call-chain shape s (valid shape
 
 pub every-call : (c : Call) (s : List ℕ) → Controller s → Controller (called c s .state)
 every-call c s h =
-    setup-or-other (λ d. Controller (called d s .state))
-    (λ count limit. setup-cases count limit s (λ o. Controller (o .state)) (λ r may no. h) (λ controls. record { shape = shaped count limit; controls = controls }))
+    start-or-act (λ d. Controller (called d s .state))
+    (each-start s (λ d k o. Controller (o .state)) (λ d k r may. h) (λ d count limit after controls. record { shape = shaped count limit; controls = controls }))
     (λ d e. record { shape = h .shape; controls = every-other-call (h .shape) d e s (h .controls) })
     c
 
@@ -98,20 +115,24 @@ module _ (s : List ℕ) (h : Controller s) where
 
   other-ordinary : (c : Call) → isSetup c ≡ false → Ordinary (called c s .refusal)
   other-ordinary =
-      each-call shape s (valid shape s (h .controls)) (λ c o. Ordinary (o .refusal))
-      (λ c r may. may .ordinary)
-      (λ c x. few (omega arith))
-      (λ v offset width register at is looked. finds-room v looked)
-      (λ v offset width value register looked. few (omega arith))
-      (λ v offset width value place p at. few (omega arith))
-      (λ v n asserted there past. few (omega arith))
-      (λ v n there past. few (omega arith))
+      each-call shape s (valid shape s (h .controls)) (λ c d o. Ordinary (o .refusal))
+      (λ c d r may bar. may .ordinary)
+      (λ c by x. few (omega arith))
+      (λ c v register x no. few (omega arith))
+      (λ c v register is looked full. finds-room v looked)
+      (λ c v register value looked. few (omega arith))
+      (λ c v place width value at. few (omega arith))
+      (λ c v n signal there past. few (omega arith))
 
   pub call-ordinary : (c : Call) → Ordinary (called c s .refusal)
   call-ordinary =
-      setup-or-other (λ c. Ordinary (called c s .refusal))
-      (λ count limit. setup-cases count limit s (λ o. Ordinary (o .refusal)) (λ r may no. may .ordinary) (λ controls. few (omega arith)))
+      start-or-act (λ c. Ordinary (called c s .refusal))
+      (each-start s (λ c d o. Ordinary (o .refusal)) (λ c d r may. may .ordinary) (λ c count limit after controls. few (omega arith)))
       other-ordinary
+
+-- a controller's count and limit are those that its words store
+pub stored-controls : (s : List ℕ) → Controller s → Controls (shaped (getD s 0 0) (getD s 1 0)) s
+stored-controls s h = subst (λ (k : Shape). Controls k s) (h .controls .lawful .in-range .stored) (h .controls)
 
 -- Demand 3 itself. The count and limit of a history are those that its words store: a later setup may have changed them.
 module _ (count limit : ℕ) (words : List ℕ) (accepted : Accepted count limit words) (cs : List Call) where
@@ -127,14 +148,14 @@ module _ (count limit : ℕ) (words : List ℕ) (accepted : Accepted count limit
   controller = every-history cs (called (Setup count limit) words .state) (record { shape = shaped count limit; controls = a-fresh-controller count limit words accepted })
 
   pub always : Controls stored after
-  always = subst (λ (k : Shape). Controls k after) (controller .controls .lawful .in-range .stored) (controller .controls)
+  always = stored-controls after controller
 
   pub demand-three : Orderly stored after
   demand-three = always .lawful .orderly
 
   -- "So at most 255 are held ..
-  pub at-most-255-held : (v : ℕ) → v < stored .count → depthAt stored v after ≤ 255
-  at-most-255-held v exists = at-most-255 stored v after demand-three exists
+  pub at-most-capacity-held : (v : ℕ) → v < stored .count → depthAt stored v after ≤ stackCapacity
+  at-most-capacity-held v exists = at-most-capacity stored v after demand-three exists
 
   -- .. and an acknowledge never lacks room": whichever call comes next
   pub never-refused-by-7 : (c : Call) → called c after .refusal ≡ 7 → ⊥

@@ -1,26 +1,18 @@
 -- Every call but setup, to any words that pass the test of refusal 6, is a chain of moves, each one that the call makes; a refused call is the
 -- chain of none. Assumes nothing.
-use mathlib.Core.Path.{_≡_, refl, sym, subst, _∙_}
+use mathlib.Core.Path.{_≡_, refl, sym, _∙_}
 use mathlib.Core.Bool.{Bool, true, false, cond, _&&_}
 use mathlib.Core.List.{List}
-use Prim.Native.Nat.{ℕ, _%_, _^_, _<_}
+use Prim.Native.Nat.{ℕ, _≤_, _<_}
 use native.Mathlib.Omega.{arith}
 use lib.Dec.{ltb}
 use borrow.Author.Tests.{ltb-true}
-use Rattle.register.specs.declared.frame.AccessWidth.{AccessWidth}
-use Rattle.register.specs.declared.distributor.Place.{Place}
 use Rattle.register.specs.declared.«cpu_interface».CpuInterfaceRegister.{CpuInterfaceRegister}
-use Rattle.register.specs.declared.distributor.DistributorAccess.{DistributorAccess}
-use Rattle.register.specs.declared.distributor.DistributorAccess.the-variants as distributor
-use Rattle.register.specs.Distributor.{locateDistributor}
 use Rattle.state.specs.declared.layout.Shape.{Shape}
-use Rattle.state.specs.declared.layout.InterfaceValue.{InterfaceValue}
-use Rattle.state.specs.declared.layout.InterfaceValue.the-variants.{Control, PriorityMask, BinaryPoint, Depth}
 use Rattle.state.specs.declared.lent.Lent.the-variants as lent
 use Rattle.state.specs.Lent.{shaped, validated}
-use Rattle.state.specs.Layout.{Count, Limit, Interface}
-use Rattle.state.specs.Words.{RecordThere, recordAt, enabledAt}
-use Rattle.state.proofs.Canonical.{OffStack}
+use Rattle.state.specs.Layout.{Count, Limit}
+use Rattle.state.specs.Words.{RecordThere, recordAt, changed, enabledAt}
 use Rattle.state.proofs.Tests.{left-true, right-true}
 use Rattle.state.proofs.Validated.{validated-held, held-validated}
 use Rattle.service.specs.Service as service
@@ -30,16 +22,18 @@ use Rattle.end.specs.End.{servedHere, onlyActive, deactivated}
 use Rattle.delivery.proofs.Ended.{ended-keeps}
 use Rattle.delivery.proofs.Registers.{write-cases}
 use Rattle.cpu_interface.specs.CpuInterface as interface-looks
-use Rattle.places.specs.Places as places
 use Rattle.cpu_interface_frame.specs.CpuInterfaceFrame.{readAnswer}
+use Rattle.input.specs.declared.Signal.{Signal}
+use Rattle.input.specs.declared.Signal.the-variants.{Level, Edge}
+use Rattle.input.specs.Input.{signalled}
 use Rattle.moves.specs.Moves as moves
-use Rattle.moves.specs.Moves.{Change, Changed, Kept, Given, Popped, OffDepth, Chain, none}
+use Rattle.moves.specs.Moves.{Change, Changed, Kept, Given, Popped, Chain, none}
 use Rattle.moves.proofs.Acknowledges.{each-acknowledge}
 use Rattle.moves.proofs.Slots.{served, touched-kind}
 use Rattle.moves.proofs.Sounds.{chain-sound, chain-others}
-use Rattle.history.specs.History.{Call, SetLevel, Pulse, isSetup, called}
+use Rattle.history.specs.History.{Call, Signals, isSetup, called}
+use Rattle.history.specs.Made.{ReadMade, WriteMade, ActionMade, DeedMade, Made}
 use Rattle.history.proofs.Chains.{one, join, if-chain, place-chain}
-use Rattle.history.proofs.Made.{PlaceMade, ReadMade, WriteMade, Made}
 use Rattle.history.proofs.Each.{each-call}
 
 -- Deactivate
@@ -60,12 +54,6 @@ deactivated-chain shape v n r exists = go (ltb n (shape .limit) && servedHere v 
         if-chain (ltb n (shape .limit) && onlyActive (recordAt shape v n r))
         (λ q. one (Changed v n moves.Complete) (refl, tt) (record { there = there (onlyActive (recordAt shape v n r)) q; fits = right-true (ltb n (shape .limit)) (onlyActive (recordAt shape v n r)) q }))
 
-off-depth : (v : ℕ) (k : InterfaceValue) → OffStack (Interface v k) → OffDepth k
-off-depth v Control off = tt
-off-depth v PriorityMask off = tt
-off-depth v BinaryPoint off = tt
-off-depth v Depth off = off
-
 module _ (shape : Shape) (s : List ℕ) (h : validated s ≡ lent.Sound shape) where
   sound : service.Sound shape s
   sound = validated-sound shape s h
@@ -79,28 +67,28 @@ module _ (shape : Shape) (s : List ℕ) (h : validated s ≡ lent.Sound shape) w
       → Chain shape (WriteMade v) s (interface-looks.writeRegister shape v register value s)
   write-chain v value register looked =
       write-cases shape v s (Chain shape (WriteMade v) s) none value
-      (λ exists k off. one (Kept v k value) refl (record { exists = exists; off-depth = off-depth v k off }))
+      (λ exists k off. one (Kept v k value) refl (record { exists = exists; off-depth = off }))
       (λ exists n. ended-keeps shape v n s (served shape s sound v exists) (Chain shape (WriteMade v) s) none
       (λ some. one (Popped v) refl (record { exists = exists; some = some }))
       (λ some pop. join pop (deactivated-chain shape v n (service.popped shape v s) exists)))
       (λ exists n. deactivated-chain shape v n s exists)
       register looked
 
-  pub distributor-chain : (v : ℕ) (width : AccessWidth) (value : ℕ) (place : Place) (a : DistributorAccess) → a ≡ distributor.At place → places.PlaceWritten shape v place width value s
-      → Chain shape (PlaceMade shape v a width value) s (places.writePlace shape v place width value s)
-  distributor-chain v width value place a p at =
-      subst (λ (x : DistributorAccess). Chain shape (PlaceMade shape v x width value) s (places.writePlace shape v place width value s)) (sym p) (place-chain shape v width value s sound place at)
+  -- a device's signal
+  signal-chain : (v n : ℕ) → RecordThere shape v n → 16 ≤ n → (signal : Signal) → Chain shape (ActionMade shape (Signals v n signal)) s (changed shape v n (signalled signal) s)
+  signal-chain v n there past (Level asserted) = one (Changed v n (moves.SetLevel asserted)) refl (record { there = there; fits = past })
+  signal-chain v n there past Edge = one (Changed v n moves.Pulse) refl (record { there = there; fits = past })
 
   pub call-chain : (c : Call) → isSetup c ≡ false → Chain shape (Made shape c) s (called c s .state)
   call-chain =
-      each-call shape s h (λ c o. Chain shape (Made shape c) s (o .state))
-      (λ c r x. none)
-      (λ c x. none)
-      (λ v offset width register at is looked. acknowledged-chain v looked)
-      (λ v offset width value register looked. write-chain v (value % 2 ^ 32) register looked)
-      (λ v offset width value place p at. distributor-chain v width (value % 2 ^ 32) place (locateDistributor offset width) p at)
-      (λ v n asserted there past. one (Changed v n (moves.SetLevel asserted)) refl (record { there = there; fits = past }))
-      (λ v n there past. one (Changed v n moves.Pulse) refl (record { there = there; fits = past }))
+      each-call shape s h (λ c d o. Chain shape (DeedMade shape d) s (o .state))
+      (λ c d r may bar. none)
+      (λ c by x. none)
+      (λ c v register x no. none)
+      (λ c v register is looked full. acknowledged-chain v looked)
+      (λ c v register value looked. write-chain v value register looked)
+      (λ c v place width value at. place-chain shape v width value s sound place at)
+      (λ c v n signal there past. signal-chain v n there past signal)
 
   -- and the words stay a state of this count and limit
   pub call-valid : (c : Call) → isSetup c ≡ false → validated (called c s .state) ≡ lent.Sound shape

@@ -37,7 +37,7 @@ use Rattle.service.specs.Service.{Sound}
 use Rattle.moves.specs.Moves as moves
 use Rattle.moves.specs.Moves.{Change, Move, Changed, Sourced, Switched, becomes, Fits, resourced, moved, Open, Chain, none, more}
 use Rattle.moves.proofs.Sounds.{chain-sound}
-use Rattle.history.proofs.Made.{BitMakes, byteMove, BitMade, ByteMade, Rung, ClassMade}
+use Rattle.history.specs.Made.{BitMakes, byteMove, BitMade, ByteMade, RingMade, ClassMade}
 
 module _ {shape : Shape} {May : Move → Type 0} where
   pub one : {s : List ℕ} (m : Move) → May m → Open shape m s → Chain shape May s (moved shape m s)
@@ -155,7 +155,7 @@ module _ (shape : Shape) (v : ℕ) (width : AccessWidth) (value : ℕ) (s : List
       (λ i b r c. byte-chain shape register v (first + i) (fieldAt 8 i value) (at .there i b) (mod-lt (value / 2 ^ (8 * i)) (pow-pos 8)) r c (record { at = i; in-run = b; is = refl }))
       s h
 
-  rings-chain : v < shape .count → Chain shape (Rung v value) s (writeSgir shape v value s)
+  rings-chain : v < shape .count → Chain shape (RingMade v value) s (writeSgir shape v value s)
   unfolding writeSgir sendSgi
   rings-chain exists =
       each-chain (sentTo shape (sgiTarget value) v (value % 16)) (shape .count)
@@ -168,7 +168,7 @@ module _ (shape : Shape) (v : ℕ) (width : AccessWidth) (value : ℕ) (s : List
   place-chain place at = by-class (place .class) refl
     where
       by-class : (c : Class) → place .class ≡ c → Chain shape (ClassMade shape v c (place .first .0) width value) s (writeClass shape v c (place .first .0) width value s)
-      by-class Ctlr e = one (Switched (eqb (value % 2) 1)) refl tt
+      by-class Ctlr e = one (Switched value) refl tt
       by-class Typer e = none
       by-class Iidr e = none
       by-class Sgir e = if-chain (sends value) (λ p. rings-chain (at .looked (simp e p)))

@@ -1,11 +1,13 @@
--- Every call but setup, to any words that pass the test of refusal 6, case by case: what it is refused by, what it answers where nothing
--- changes, and the five ways in which it changes something. What holds in each case holds of every call. Assumes nothing.
-use mathlib.Core.Path.{_≡_, refl, subst}
+-- Every call but setup, to any words that pass the test of refusal 6, case by case of what kind it is: what it is refused by, what it answers
+-- where nothing changes, and the four ways in which it changes something. What holds in each case holds of every call. Assumes nothing.
+use mathlib.Core.Path.{_≡_, refl, sym, subst, _∙_}
 use mathlib.Core.Bool.{Bool, true, false, not, cond, _&&_, true≢false}
 use mathlib.Core.List.{List, [], _∷_}
+use mathlib.Core.Option.{Option, some}
 use Prim.Native.Nat.{ℕ, _%_, _^_, _≤_, _<_}
 use native.Mathlib.Omega.{arith}
 use lib.Dec.{ltb}
+use borrow.Author.Tests.{ltb-true, lt-ltb, le-ltb}
 use Rattle.register.specs.declared.frame.AccessWidth.{AccessWidth}
 use Rattle.register.specs.declared.distributor.Place.{Place}
 use Rattle.register.specs.declared.«cpu_interface».CpuInterfaceRegister.{CpuInterfaceRegister}
@@ -30,7 +32,7 @@ use Rattle.delivery.proofs.Registers.{each-read}
 use Rattle.cpu_interface.specs.CpuInterface as interface-looks
 use Rattle.places.specs.Places as places
 use Rattle.answer.specs.Answer.{Outcome, refused, gave, went, absent, lookedUp}
-use Rattle.answer.proofs.Present.{present}
+use Rattle.answer.proofs.Present.{present, found}
 use Rattle.distributor_frame.specs.DistributorFrame as distributor-frame
 use Rattle.distributor_frame.specs.DistributorFrame.{readV2Distributor, writeV2Distributor}
 use Rattle.distributor_frame.proofs.Passed.{place-written}
@@ -44,7 +46,7 @@ use Rattle.input.specs.Input.{signalled, inputOf, inputAt, deviceInput}
 use Rattle.input.proofs.Passed.{input-there}
 use Rattle.lawful.specs.Lawful.{Controls}
 use Rattle.history.specs.Refusals.{refusals, listed}
-use Rattle.history.specs.History.{Ordinary, Call, Setup, ReadDistributor, WriteDistributor, ReadCpuInterface, WriteCpuInterface, SetLevel, Pulse, isSetup, called}
+use Rattle.history.specs.History.{Ordinary, Call, Setup, ReadDistributor, WriteDistributor, ReadCpuInterface, WriteCpuInterface, SetLevel, Pulse, Looks, ReadsRegister, WritesRegister, WritesPlace, Signals, Deed, Starts, Acts, deed, startsAnew, isSetup, called}
 use Rattle.register.specs.declared.frame.Refusal.{Refusal}
 use Rattle.register.specs.Frame.{refusalNumber, isDword, inFrame}
 use Rattle.state.specs.declared.lent.Limited.the-variants.{Outside}
@@ -57,6 +59,17 @@ few b = record { not-6 = λ e. absurd (omega (arith, b, e)); not-7 = λ e. absur
 pub record Refusable (c : Call) (x : ℕ) : Type 0 where
   pub ordinary : Ordinary x
   pub of-call : listed x (refusals c) ≡ true
+
+-- a refusal has a number
+pub some-refusal : (r : Refusal) → refusalNumber r ≡ 0 → ⊥
+some-refusal refusal.Access e = omega (arith, e)
+some-refusal refusal.Width e = omega (arith, e)
+some-refusal refusal.Vcpu e = omega (arith, e)
+some-refusal refusal.Limits e = omega (arith, e)
+some-refusal refusal.ShortState e = omega (arith, e)
+some-refusal refusal.BrokenState e = omega (arith, e)
+some-refusal refusal.FullStack e = omega (arith, e)
+some-refusal refusal.Input e = omega (arith, e)
 
 -- an access, by 1, 2 or 3
 access : {c : Call} {more : List ℕ} → refusals c ≡ 6 ∷ 1 ∷ 2 ∷ 3 ∷ more → (r : Refusal) → refusalNumber r ≤ 3 → Refusable c (refusalNumber r)
@@ -86,19 +99,40 @@ interface-access offset width = go (inFrame 0x2000 offset width) (isDword width)
     go true false = omega arith
     go false c = omega arith
 
--- an input's number is that of the call, and no SGI's
-abbrev IsInput : ℕ → InputNumber → Type 0
-IsInput n (Device k) = (k .0 ≡ n) × (16 ≤ n)
-IsInput n Outside = Unit
+-- a read there may be refused by 7
+read-by-7 : (v offset : ℕ) (width : AccessWidth) → listed 7 (refusals (ReadCpuInterface v offset width)) ≡ true
+read-by-7 v offset width = refl
 
-input-is : (shape : Shape) (n : ℕ) → IsInput n (inputOf shape n)
+-- an input's number is that of the call, and no SGI's
+abbrev IsInput : Shape → ℕ → InputNumber → Type 0
+IsInput shape n (Device k) = (k .0 ≡ n) × (16 ≤ n)
+IsInput shape n Outside = n < shape .limit → 16 ≤ n → ⊥
+
+input-is : (shape : Shape) (n : ℕ) → IsInput shape n (inputOf shape n)
 unfolding inputOf
 input-is shape n = go (not (ltb n 16) && ltb n (shape .limit)) refl
   where
-    go : (b : Bool) → (not (ltb n 16) && ltb n (shape .limit)) ≡ b → IsInput n (cond b (Device (record { 0 = n })) Outside)
+    go : (b : Bool) → (not (ltb n 16) && ltb n (shape .limit)) ≡ b → IsInput shape n (cond b (Device (record { 0 = n })) Outside)
     go true e = (refl, not-below n 16 (left-true (not (ltb n 16)) (ltb n (shape .limit)) e))
-    go false e = tt
+    go false e = λ below past. absurd (true≢false (simp (le-ltb n 16 past, lt-ltb n (shape .limit) below) at e))
 
+-- a call starts a controller anew, or it acts on one
+pub start-or-act : (P : Call → Type 0) → ((c : Call) → isSetup c ≡ true → P c) → ((c : Call) → isSetup c ≡ false → P c) → (c : Call) → P c
+start-or-act P starts acts c = go (isSetup c) refl
+  where
+    go : (b : Bool) → isSetup c ≡ b → P c
+    go true e = starts c e
+    go false e = acts c e
+
+-- what passes a test that no start passes is an act
+pub is-act : (test : Deed → Bool) → ((count limit : ℕ) → test (Starts count limit) ≡ false) → (c : Call) → test (deed c) ≡ true → isSetup c ≡ false
+is-act test never c = go (deed c)
+  where
+    go : (d : Deed) → test d ≡ true → startsAnew d ≡ false
+    go (Starts count limit) e = absurd (true≢false (sym e ∙ never count limit))
+    go (Acts a) e = refl
+
+-- case by case: today a setup alone starts one
 pub setup-or-other : (P : Call → Type 0) → ((count limit : ℕ) → P (Setup count limit)) → ((c : Call) → isSetup c ≡ false → P c) → (c : Call) → P c
 setup-or-other P setup other (Setup count limit) = setup count limit
 setup-or-other P setup other (ReadDistributor v offset width) = other (ReadDistributor v offset width) refl
@@ -111,108 +145,128 @@ setup-or-other P setup other (Pulse v n) = other (Pulse v n) refl
 pub valid : (shape : Shape) (s : List ℕ) → Controls shape s → validated s ≡ Sound shape
 valid shape s h = held-validated s shape (h .lawful .in-range)
 
-module _ (shape : Shape) (s : List ℕ) (h : validated s ≡ Sound shape) (P : Call → Outcome → Type 0)
-    (refuses : (c : Call) (r : Refusal) → Refusable c (refusalNumber r) → P c (refused r s))
-    (reads : (c : Call) (x : ℕ) → P c (gave x s))
-    (acknowledges : (v offset : ℕ) (width : AccessWidth) (register : CpuInterfaceRegister) → locateCpuInterface offset width ≡ interface.At register
-    → interface-looks.acknowledging register ≡ true → (enabledAt shape s ≡ true → v < shape .count)
-    → P (ReadCpuInterface v offset width) (interface-frame.readAnswer (acknowledge shape v s) s (acknowledged shape v s)))
-    (writes : (v offset : ℕ) (width : AccessWidth) (value : ℕ) (register : CpuInterfaceRegister) → (interface-looks.writeRegisterLooksUp register (value % 2 ^ 32) ≡ true → v < shape .count)
-    → P (WriteCpuInterface v offset width value)
-    (went shape (interface-looks.writeRetired shape v register (value % 2 ^ 32) s) s (interface-looks.writeRegister shape v register (value % 2 ^ 32) s)))
-    (places-write : (v offset : ℕ) (width : AccessWidth) (value : ℕ) (place : Place) → locateDistributor offset width ≡ distributor.At place
-    → places.PlaceWritten shape v place width (value % 2 ^ 32) s
-    → P (WriteDistributor v offset width value) (went shape 1023 s (places.writePlace shape v place width (value % 2 ^ 32) s)))
-    (levels : (v n : ℕ) (asserted : Bool) → RecordThere shape v n → 16 ≤ n → P (SetLevel v n asserted) (went shape 1023 s (changed shape v n (signalled (Level asserted)) s)))
-    (pulses : (v n : ℕ) → RecordThere shape v n → 16 ≤ n → P (Pulse v n) (went shape 1023 s (changed shape v n (signalled Edge) s))) where
+-- what a refused call asked for in vain, of the calls that could take something: it names a vCPU that there is not, or no device's number
+abbrev pub Barred : Shape → Deed → Type 0
+Barred shape (Starts count limit) = Unit
+Barred shape (Acts (Looks by)) = Unit
+Barred shape (Acts (ReadsRegister v a)) = Unit
+Barred shape (Acts (WritesRegister v a value)) = Unit
+Barred shape (Acts (WritesPlace v (distributor.Refused r) width value)) = Unit
+Barred shape (Acts (WritesPlace v distributor.PrivateWidth width value)) = Unit
+Barred shape (Acts (WritesPlace v (distributor.At place) width value)) =
+    places.Located place width × ((places.writePlaceLooksUp (place .class) (place .private) value ≡ true → v < shape .count) → ⊥)
+Barred shape (Acts (Signals v n (Level asserted))) = RecordThere shape v n → 16 ≤ n → ⊥
+Barred shape (Acts (Signals v n Edge)) = Unit
+
+signal-barred : {shape : Shape} (v n : ℕ) (signal : Signal) → (RecordThere shape v n → 16 ≤ n → ⊥) → Barred shape (Acts (Signals v n signal))
+signal-barred v n (Level asserted) f = f
+signal-barred v n Edge f = tt
+
+-- what a call comes to, by its kind: `P` is of the call, its kind and what it comes to
+module _ (shape : Shape) (s : List ℕ) (h : validated s ≡ Sound shape) (P : Call → Deed → Outcome → Type 0)
+    (refuses : (c : Call) (d : Deed) (r : Refusal) → Refusable c (refusalNumber r) → Barred shape d → P c d (refused r s))
+    (looks : (c : Call) (by : Option ℕ) (x : ℕ) → P c (Acts (Looks by)) (gave x s))
+    (reads : (c : Call) (v : ℕ) (register : CpuInterfaceRegister) (x : ℕ) → interface-looks.acknowledging register ≡ false → P c (Acts (ReadsRegister v (interface.At register))) (gave x s))
+    (acknowledges : (c : Call) (v : ℕ) (register : CpuInterfaceRegister) → interface-looks.acknowledging register ≡ true → (enabledAt shape s ≡ true → v < shape .count)
+    → listed 7 (refusals c) ≡ true → P c (Acts (ReadsRegister v (interface.At register))) (interface-frame.readAnswer (acknowledge shape v s) s (acknowledged shape v s)))
+    (writes : (c : Call) (v : ℕ) (register : CpuInterfaceRegister) (value : ℕ) → (interface-looks.writeRegisterLooksUp register value ≡ true → v < shape .count)
+    → P c (Acts (WritesRegister v (interface.At register) value))
+    (went shape (interface-looks.writeRetired shape v register value s) s (interface-looks.writeRegister shape v register value s)))
+    (places-write : (c : Call) (v : ℕ) (place : Place) (width : AccessWidth) (value : ℕ) → places.PlaceWritten shape v place width value s
+    → P c (Acts (WritesPlace v (distributor.At place) width value)) (went shape 1023 s (places.writePlace shape v place width value s)))
+    (signals : (c : Call) (v n : ℕ) (signal : Signal) → RecordThere shape v n → 16 ≤ n → P c (Acts (Signals v n signal)) (went shape 1023 s (changed shape v n (signalled signal) s))) where
   sound : service.Sound shape s
   sound = validated-sound shape s h
 
   -- what looks up its vCPU and does not find it is refused by 3
-  looked : (c : Call) → Refusable c 3 → (looksUp : Bool) (v : ℕ) (out : Outcome) → (absent looksUp shape v ≡ false → P c out) → P c (lookedUp looksUp shape v s out)
-  looked c may looksUp v out f = go (absent looksUp shape v) refl
+  looked : (c : Call) (d : Deed) → Refusable c 3 → (looksUp : Bool) (v : ℕ) (out : Outcome) → (((looksUp ≡ true → v < shape .count) → ⊥) → Barred shape d)
+      → (absent looksUp shape v ≡ false → P c d out) → P c d (lookedUp looksUp shape v s out)
+  looked c d may looksUp v out bar f = go (absent looksUp shape v) refl
     where
-      go : (b : Bool) → absent looksUp shape v ≡ b → P c (lookedUp looksUp shape v s out)
-      go true e = simp e (refuses c refusal.Vcpu may)
+      go : (b : Bool) → absent looksUp shape v ≡ b → P c d (lookedUp looksUp shape v s out)
+      go true e = simp e (refuses c d refusal.Vcpu may (bar (λ there. true≢false (sym e ∙ found looksUp shape v there))))
       go false e = simp e (f e)
 
-  private-width : (c : Call) → ((r : Refusal) → refusalNumber r ≤ 3 → Refusable c (refusalNumber r)) → (v : ℕ) → P c (distributor-frame.privateWidth shape v s)
-  private-width c may v = looked c (may refusal.Vcpu (omega arith)) true v (refused refusal.Width s) (λ e. refuses c refusal.Width (may refusal.Width (omega arith)))
+  -- an access: what it may be refused by is known of its call
+  module _ (c : Call) (may : (r : Refusal) → refusalNumber r ≤ 3 → Refusable c (refusalNumber r)) where
+    private-width : (d : Deed) (v : ℕ) → Barred shape d → P c d (distributor-frame.privateWidth shape v s)
+    private-width d v bar = looked c d (may refusal.Vcpu (omega arith)) true v (refused refusal.Width s) (λ p. bar) (λ e. refuses c d refusal.Width (may refusal.Width (omega arith)) bar)
 
-  interface-read : (v offset : ℕ) (width : AccessWidth) (a : CpuInterfaceAccess) → locateCpuInterface offset width ≡ a → Passes a → P (ReadCpuInterface v offset width) (interface-frame.readInterfaceAccess shape v a s)
-  interface-read v offset width (interface.Refused r) q p = refuses (ReadCpuInterface v offset width) r (access refl r (omega (arith, p)))
-  interface-read v offset width (interface.At register) q p =
-      each-read shape v s (λ k looksUp answer r. locateCpuInterface offset width ≡ interface.At k → P c (lookedUp looksUp shape v s (interface-frame.readAnswer answer s r)))
-      (λ k no looksUp x at. looked c vcpu looksUp v (gave x s) (λ e. reads c x))
-      (λ k is at. looked c vcpu (enabledAt shape s) v (interface-frame.readAnswer (acknowledge shape v s) s (acknowledged shape v s))
-      (λ e. acknowledges v offset width k at is (present (enabledAt shape s) shape v e)))
-      register q
-    where
-      c : Call
-      c = ReadCpuInterface v offset width
+    interface-read : listed 7 (refusals c) ≡ true → (v : ℕ) (a : CpuInterfaceAccess) → Passes a → P c (Acts (ReadsRegister v a)) (interface-frame.readInterfaceAccess shape v a s)
+    interface-read full v (interface.Refused r) p = refuses c (Acts (ReadsRegister v (interface.Refused r))) r (may r (omega (arith, p))) tt
+    interface-read full v (interface.At register) p =
+        each-read shape v s (λ k looksUp answer r. P c (Acts (ReadsRegister v (interface.At k))) (lookedUp looksUp shape v s (interface-frame.readAnswer answer s r)))
+        (λ k no looksUp x. looked c (Acts (ReadsRegister v (interface.At k))) vcpu looksUp v (gave x s) (λ q. tt) (λ e. reads c v k x no))
+        (λ k is. looked c (Acts (ReadsRegister v (interface.At k))) vcpu (enabledAt shape s) v (interface-frame.readAnswer (acknowledge shape v s) s (acknowledged shape v s)) (λ q. tt)
+        (λ e. acknowledges c v k is (present (enabledAt shape s) shape v e) full))
+        register
+      where
+        vcpu : Refusable c 3
+        vcpu = may refusal.Vcpu (omega arith)
 
-      vcpu : Refusable c 3
-      vcpu = access refl refusal.Vcpu (omega arith)
+    interface-write : (v : ℕ) (a : CpuInterfaceAccess) (x : ℕ) → Passes a → P c (Acts (WritesRegister v a x)) (interface-frame.writeInterfaceAccess shape v a x s)
+    interface-write v (interface.Refused r) x p = refuses c (Acts (WritesRegister v (interface.Refused r) x)) r (may r (omega (arith, p))) tt
+    interface-write v (interface.At register) x p =
+        let looksUp : Bool = interface-looks.writeRegisterLooksUp register x in
+        looked c (Acts (WritesRegister v (interface.At register) x)) (may refusal.Vcpu (omega arith)) looksUp v
+        (went shape (interface-looks.writeRetired shape v register x s) s (interface-looks.writeRegister shape v register x s)) (λ q. tt)
+        (λ e. writes c v register x (present looksUp shape v e))
 
-  interface-write : (v offset : ℕ) (width : AccessWidth) (value : ℕ) (a : CpuInterfaceAccess) → Passes a → P (WriteCpuInterface v offset width value) (interface-frame.writeInterfaceAccess shape v a (value % 2 ^ 32) s)
-  interface-write v offset width value (interface.Refused r) p = refuses (WriteCpuInterface v offset width value) r (access refl r (omega (arith, p)))
-  interface-write v offset width value (interface.At register) p =
-      let x : ℕ = value % 2 ^ 32 in
-      let looksUp : Bool = interface-looks.writeRegisterLooksUp register x in
-      looked (WriteCpuInterface v offset width value) (access refl refusal.Vcpu (omega arith)) looksUp v (went shape (interface-looks.writeRetired shape v register x s) s (interface-looks.writeRegister shape v register x s))
-      (λ e. writes v offset width value register (present looksUp shape v e))
+    module _ (v offset : ℕ) (width : AccessWidth) where
+      distributor-read : (a : DistributorAccess) → locateDistributor offset width ≡ a → P c (Acts (Looks (some v))) (distributor-frame.readDistributorAccess shape v a width s)
+      distributor-read (distributor.Refused r) p = refuses c (Acts (Looks (some v))) r (may r (omega (arith, refused-access offset width r p))) tt
+      distributor-read distributor.PrivateWidth p = private-width (Acts (Looks (some v))) v tt
+      distributor-read (distributor.At place) p =
+          let x : ℕ = places.readPlace shape v place width s in
+          looked c (Acts (Looks (some v))) (may refusal.Vcpu (omega arith)) (places.readPlaceLooksUp (place .class) (place .private)) v (gave x s) (λ q. tt) (λ e. looks c (some v) x)
 
-  distributor-read : (v offset : ℕ) (width : AccessWidth) (a : DistributorAccess) → locateDistributor offset width ≡ a → P (ReadDistributor v offset width) (distributor-frame.readDistributorAccess shape v a width s)
-  distributor-read v offset width (distributor.Refused r) p = refuses (ReadDistributor v offset width) r (access refl r (omega (arith, refused-access offset width r p)))
-  distributor-read v offset width distributor.PrivateWidth p = private-width (ReadDistributor v offset width) (access refl) v
-  distributor-read v offset width (distributor.At place) p =
-      let x : ℕ = places.readPlace shape v place width s in
-      looked (ReadDistributor v offset width) (access refl refusal.Vcpu (omega arith)) (places.readPlaceLooksUp (place .class) (place .private)) v (gave x s) (λ e. reads (ReadDistributor v offset width) x)
+      distributor-write : (a : DistributorAccess) (x : ℕ) → locateDistributor offset width ≡ a → P c (Acts (WritesPlace v a width x)) (distributor-frame.writeDistributorAccess shape v a width x s)
+      distributor-write (distributor.Refused r) x p =
+          refuses c (Acts (WritesPlace v (distributor.Refused r) width x)) r (may r (omega (arith, refused-access offset width r p))) tt
+      distributor-write distributor.PrivateWidth x p = private-width (Acts (WritesPlace v distributor.PrivateWidth width x)) v tt
+      distributor-write (distributor.At place) x p =
+          looked c (Acts (WritesPlace v (distributor.At place) width x)) (may refusal.Vcpu (omega arith)) (places.writePlaceLooksUp (place .class) (place .private) x) v
+          (went shape 1023 s (places.writePlace shape v place width x s)) (λ q. (record { offset = offset; at = p }, q))
+          (λ e. places-write c v place width x (place-written v sound (record { offset = offset; at = p }) e))
 
-  distributor-write : (v offset : ℕ) (width : AccessWidth) (value : ℕ) (a : DistributorAccess) → locateDistributor offset width ≡ a
-      → P (WriteDistributor v offset width value) (distributor-frame.writeDistributorAccess shape v a width (value % 2 ^ 32) s)
-  distributor-write v offset width value (distributor.Refused r) p = refuses (WriteDistributor v offset width value) r (access refl r (omega (arith, refused-access offset width r p)))
-  distributor-write v offset width value distributor.PrivateWidth p = private-width (WriteDistributor v offset width value) (access refl) v
-  distributor-write v offset width value (distributor.At place) p =
-      let x : ℕ = value % 2 ^ 32 in
-      looked (WriteDistributor v offset width value) (access refl refusal.Vcpu (omega arith)) (places.writePlaceLooksUp (place .class) (place .private) x) v (went shape 1023 s (places.writePlace shape v place width x s))
-      (λ e. places-write v offset width value place p (place-written v sound (record { offset = offset; at = p }) e))
+  input : (c : Call) → listed 8 (refusals c) ≡ true → listed 3 (refusals c) ≡ true → (v n : ℕ) (signal : Signal) (a : InputNumber) → inputOf shape n ≡ a → IsInput shape n a
+      → P c (Acts (Signals v n signal)) (inputAt shape v signal a s)
+  input c by-8 by-3 v n signal Outside p is =
+      refuses c (Acts (Signals v n signal)) refusal.Input (record { ordinary = record { not-6 = λ e. absurd (omega (arith, e)); not-7 = λ e. absurd (omega (arith, e)) }; of-call = by-8 })
+      (signal-barred v n signal (λ there past. is (there .numbered) past))
+  input c by-8 by-3 v n signal (Device k) p is =
+      looked c (Acts (Signals v n signal)) (record { ordinary = few (omega arith); of-call = by-3 }) (ltb (k .0) 32) v (went shape 1023 s (changed shape v (k .0) (signalled signal) s))
+      (λ q. signal-barred v n signal (λ there past. q (λ low. there .banked (rw (is .0) at (ltb-true (k .0) 32 low)))))
+      (λ e. rw (is .0) (signals c v n signal (subst (RecordThere shape v) (is .0) (input-there shape v n k p e)) (is .1)))
 
-  input : (c : Call) → refusals c ≡ 6 ∷ 8 ∷ 3 ∷ [] → (v n : ℕ) (signal : Signal) → (RecordThere shape v n → 16 ≤ n → P c (went shape 1023 s (changed shape v n (signalled signal) s)))
-      → (a : InputNumber) → inputOf shape n ≡ a → IsInput n a → P c (inputAt shape v signal a s)
-  input c may v n signal f Outside p is =
-      refuses c refusal.Input (record { ordinary = record { not-6 = λ e. absurd (omega (arith, e)); not-7 = λ e. absurd (omega (arith, e)) }; of-call = rw may })
-  input c may v n signal f (Device k) p is =
-      looked c (record { ordinary = few (omega arith); of-call = rw may }) (ltb (k .0) 32) v (went shape 1023 s (changed shape v (k .0) (signalled signal) s))
-      (λ e. rw (is .0) (f (subst (RecordThere shape v) (is .0) (input-there shape v n k p e)) (is .1)))
-
-  pub each-call : (c : Call) → isSetup c ≡ false → P c (called c s)
+  pub each-call : (c : Call) → isSetup c ≡ false → P c (deed c) (called c s)
   unfolding readV2Distributor writeV2Distributor readV2CpuInterface writeV2CpuInterface deviceInput
   each-call (Setup count limit) e = absurd (true≢false e)
-  each-call (ReadDistributor v offset width) e = rw h (distributor-read v offset width (locateDistributor offset width) refl)
-  each-call (WriteDistributor v offset width value) e = rw h (distributor-write v offset width value (locateDistributor offset width) refl)
-  each-call (ReadCpuInterface v offset width) e = rw h (interface-read v offset width (locateCpuInterface offset width) refl (interface-access offset width))
-  each-call (WriteCpuInterface v offset width value) e = rw h (interface-write v offset width value (locateCpuInterface offset width) (interface-access offset width))
-  each-call (SetLevel v n asserted) e = rw h (input (SetLevel v n asserted) refl v n (Level asserted) (levels v n asserted) (inputOf shape n) refl (input-is shape n))
-  each-call (Pulse v n) e = rw h (input (Pulse v n) refl v n Edge (pulses v n) (inputOf shape n) refl (input-is shape n))
+  each-call (ReadDistributor v offset width) e = rw h (distributor-read (ReadDistributor v offset width) (access refl) v offset width (locateDistributor offset width) refl)
+  each-call (WriteDistributor v offset width value) e =
+      rw h (distributor-write (WriteDistributor v offset width value) (access refl) v offset width (locateDistributor offset width) (value % 2 ^ 32) refl)
+  each-call (ReadCpuInterface v offset width) e = rw h (interface-read (ReadCpuInterface v offset width) (access refl) (read-by-7 v offset width) v (locateCpuInterface offset width) (interface-access offset width))
+  each-call (WriteCpuInterface v offset width value) e =
+      rw h (interface-write (WriteCpuInterface v offset width value) (access refl) v (locateCpuInterface offset width) (value % 2 ^ 32) (interface-access offset width))
+  each-call (SetLevel v n asserted) e = rw h (input (SetLevel v n asserted) refl refl v n (Level asserted) (inputOf shape n) refl (input-is shape n))
+  each-call (Pulse v n) e = rw h (input (Pulse v n) refl refl v n Edge (inputOf shape n) refl (input-is shape n))
 
--- to any words at all: those that are no state are refused by 6
-module _ (s : List ℕ) (P : Call → Outcome → Type 0)
-    (breaks : (c : Call) → isSetup c ≡ false → P c (refused refusal.BrokenState s))
-    (holds : (shape : Shape) → validated s ≡ Sound shape → (c : Call) → isSetup c ≡ false → P c (called c s)) where
-  broken : validated s ≡ Broken → (c : Call) → isSetup c ≡ false → P c (called c s)
-  unfolding readV2Distributor writeV2Distributor readV2CpuInterface writeV2CpuInterface deviceInput
-  broken p (Setup count limit) e = absurd (true≢false e)
-  broken p (ReadDistributor v offset width) e = rw p (breaks (ReadDistributor v offset width) e)
-  broken p (WriteDistributor v offset width value) e = rw p (breaks (WriteDistributor v offset width value) e)
-  broken p (ReadCpuInterface v offset width) e = rw p (breaks (ReadCpuInterface v offset width) e)
-  broken p (WriteCpuInterface v offset width value) e = rw p (breaks (WriteCpuInterface v offset width value) e)
-  broken p (SetLevel v n asserted) e = rw p (breaks (SetLevel v n asserted) e)
-  broken p (Pulse v n) e = rw p (breaks (Pulse v n) e)
+-- words that are no state are refused by 6
+pub broken-call : (c : Call) → isSetup c ≡ false → (s : List ℕ) → validated s ≡ Broken → (called c s ≡ refused refusal.BrokenState s) × (listed 6 (refusals c) ≡ true)
+unfolding readV2Distributor writeV2Distributor readV2CpuInterface writeV2CpuInterface deviceInput
+broken-call (Setup count limit) e s p = absurd (true≢false e)
+broken-call (ReadDistributor v offset width) e s p = (rw p refl, refl)
+broken-call (WriteDistributor v offset width value) e s p = (rw p refl, refl)
+broken-call (ReadCpuInterface v offset width) e s p = (rw p refl, refl)
+broken-call (WriteCpuInterface v offset width value) e s p = (rw p refl, refl)
+broken-call (SetLevel v n asserted) e s p = (rw p refl, refl)
+broken-call (Pulse v n) e s p = (rw p refl, refl)
 
-  pub any-words : (c : Call) → isSetup c ≡ false → P c (called c s)
-  any-words c e = go (validated s) refl
-    where
-      go : (l : Lent) → validated s ≡ l → P c (called c s)
-      go Broken p = broken p c e
-      go (Sound shape) p = holds shape p c e
+-- to any words at all
+pub any-words : (s : List ℕ) (P : Call → Outcome → Type 0) → ((c : Call) → listed 6 (refusals c) ≡ true → P c (refused refusal.BrokenState s))
+    → ((shape : Shape) → validated s ≡ Sound shape → (c : Call) → isSetup c ≡ false → P c (called c s)) → (c : Call) → isSetup c ≡ false → P c (called c s)
+any-words s P breaks holds c e = go (validated s) refl
+  where
+    go : (l : Lent) → validated s ≡ l → P c (called c s)
+    go Broken p = let by-6 = broken-call c e s p in subst (P c) (sym (by-6 .0)) (breaks c (by-6 .1))
+    go (Sound shape) p = holds shape p c e

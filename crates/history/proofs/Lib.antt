@@ -3,6 +3,5 @@ pub mod Always
 pub mod Calls
 pub mod Chains
 pub mod Each
-pub mod Made
 pub mod Refusals
 pub mod Touch

@@ -13,10 +13,10 @@ use Rattle.service.proofs.Soundness.{validated-sound}
 use Rattle.answer.specs.Answer.{Outcome, refused}
 use Rattle.cpu_interface_frame.specs.CpuInterfaceFrame.{readAnswer}
 use Rattle.moves.proofs.Acknowledges.{each-acknowledge}
-use Rattle.history.specs.History.{Call, Setup, ReadDistributor, WriteDistributor, ReadCpuInterface, WriteCpuInterface, SetLevel, Pulse, isSetup, called}
+use Rattle.history.specs.History.{Call, called}
 use Rattle.history.specs.Refusals.{refusals, listed, Refuses}
-use Rattle.history.proofs.Always.{setup-cases}
-use Rattle.history.proofs.Each.{setup-or-other, each-call, any-words}
+use Rattle.history.proofs.Always.{each-start}
+use Rattle.history.proofs.Each.{start-or-act, each-call, any-words}
 
 -- a call that comes to this is accepted, or refused as it has to be
 abbrev AsRefused : List ℕ → Call → Outcome → Type 0
@@ -26,36 +26,25 @@ module _ (s : List ℕ) where
   a-refusal : (c : Call) (r : Refusal) → listed (refusalNumber r) (refusals c) ≡ true → AsRefused s c (refused r s)
   a-refusal c r e some = record { number = e; value = refl; wake = refl; retired = refl; state = refl }
 
-  -- words that are no state are refused by 6
-  by-6 : (c : Call) → isSetup c ≡ false → AsRefused s c (refused refusal.BrokenState s)
-  by-6 (Setup count limit) e = absurd (true≢false e)
-  by-6 (ReadDistributor v offset width) e = a-refusal (ReadDistributor v offset width) refusal.BrokenState refl
-  by-6 (WriteDistributor v offset width value) e = a-refusal (WriteDistributor v offset width value) refusal.BrokenState refl
-  by-6 (ReadCpuInterface v offset width) e = a-refusal (ReadCpuInterface v offset width) refusal.BrokenState refl
-  by-6 (WriteCpuInterface v offset width value) e = a-refusal (WriteCpuInterface v offset width value) refusal.BrokenState refl
-  by-6 (SetLevel v n asserted) e = a-refusal (SetLevel v n asserted) refusal.BrokenState refl
-  by-6 (Pulse v n) e = a-refusal (Pulse v n) refusal.BrokenState refl
-
   accepted : {c : Call} {o : Outcome} → o .refusal ≡ 0 → AsRefused s c o
   accepted e some = absurd (some e)
 
 -- any call with any arguments, to any words at all
 pub every-refusal : (c : Call) (s : List ℕ) → (called c s .refusal ≡ 0 → ⊥) → Refuses c s (called c s)
 every-refusal c s =
-    setup-or-other (λ d. AsRefused s d (called d s))
-    (λ count limit. setup-cases count limit s (AsRefused s (Setup count limit)) (λ r may no. a-refusal s (Setup count limit) r (may .of-call)) (λ controls. accepted s refl))
-    (any-words s (AsRefused s) (by-6 s)
-    (λ shape h. each-call shape s h (AsRefused s)
-    (λ d r may. a-refusal s d r (may .of-call))
-    (λ d x. accepted s refl)
-    (λ v offset width register at is looked.
-    let d : Call = ReadCpuInterface v offset width in
+    start-or-act (λ d. AsRefused s d (called d s))
+    (each-start s (λ d k. AsRefused s d) (λ d k r may. a-refusal s d r (may .of-call)) (λ d count limit after controls. accepted s refl))
+    (any-words s (AsRefused s) (λ d by-6. a-refusal s d refusal.BrokenState by-6)
+    (λ shape h. each-call shape s h (λ d k. AsRefused s d)
+    (λ d k r may bar. a-refusal s d r (may .of-call))
+    (λ d by x. accepted s refl)
+    (λ d v register x no. accepted s refl)
+    (λ d v register is looked full.
     each-acknowledge shape s (validated-sound shape s h) v looked (λ a r. AsRefused s d (readAnswer a s r))
-    (accepted s refl) (λ e exists p full. a-refusal s d refusal.FullStack refl) (λ e o. accepted s refl))
-    (λ v offset width value register looked. accepted s refl)
-    (λ v offset width value place p at. accepted s refl)
-    (λ v n asserted there past. accepted s refl)
-    (λ v n there past. accepted s refl)))
+    (accepted s refl) (λ e exists p no-room. a-refusal s d refusal.FullStack full) (λ e o. accepted s refl))
+    (λ d v register value looked. accepted s refl)
+    (λ d v place width value at. accepted s refl)
+    (λ d v n signal there past. accepted s refl)))
     c
 
 -- "each public call ends with a defined answer": accepted, or refused by one of the numbers that document 01 has for it

@@ -3,13 +3,20 @@
 use mathlib.Core.Bool.{Bool, true, false, not, _&&_}
 use mathlib.Core.Path.{_≡_}
 use mathlib.Core.List.{List, [], _∷_}
-use Prim.Native.Nat.{ℕ}
+use mathlib.Core.Option.{Option, some}
+use Prim.Native.Nat.{ℕ, _%_, _^_}
 use Rattle.register.specs.declared.frame.AccessWidth.{AccessWidth}
 use Rattle.register.specs.declared.frame.AccessWidth.the-variants.{Dword}
+use Rattle.register.specs.declared.distributor.DistributorAccess.{DistributorAccess}
+use Rattle.register.specs.declared.«cpu_interface».CpuInterfaceAccess.{CpuInterfaceAccess}
+use Rattle.register.specs.CpuInterface.{locateCpuInterface}
+use Rattle.register.specs.Distributor.{locateDistributor}
 use Rattle.answer.specs.Answer.{Outcome}
 use Rattle.controller.specs.Start.{setup}
 use Rattle.distributor_frame.specs.DistributorFrame.{readV2Distributor, writeV2Distributor}
 use Rattle.cpu_interface_frame.specs.CpuInterfaceFrame.{readV2CpuInterface, writeV2CpuInterface}
+use Rattle.input.specs.declared.Signal.{Signal}
+use Rattle.input.specs.declared.Signal.the-variants.{Level, Edge}
 use Rattle.input.specs.Input.{deviceLevel, devicePulse}
 
 -- count and limit; vCPU, offset, width and, to write, value; for inputs vCPU, number and, for a line, its level
@@ -22,14 +29,15 @@ pub data Call : Type 0 where
   SetLevel : ℕ → ℕ → Bool → Call
   Pulse : ℕ → ℕ → Call
 
-abbrev pub isSetup : Call → Bool
-isSetup (Setup count limit) = true
-isSetup (ReadDistributor v offset width) = false
-isSetup (WriteDistributor v offset width value) = false
-isSetup (ReadCpuInterface v offset width) = false
-isSetup (WriteCpuInterface v offset width value) = false
-isSetup (SetLevel v n asserted) = false
-isSetup (Pulse v n) = false
+-- its numbers, of 64 bits each
+abbrev pub numbers : Call → List ℕ
+numbers (Setup count limit) = count ∷ limit ∷ []
+numbers (ReadDistributor v offset width) = v ∷ offset ∷ []
+numbers (WriteDistributor v offset width value) = v ∷ offset ∷ value ∷ []
+numbers (ReadCpuInterface v offset width) = v ∷ offset ∷ []
+numbers (WriteCpuInterface v offset width value) = v ∷ offset ∷ value ∷ []
+numbers (SetLevel v n asserted) = v ∷ n ∷ []
+numbers (Pulse v n) = v ∷ n ∷ []
 
 -- what it does
 abbrev pub called : Call → List ℕ → Outcome
@@ -40,6 +48,41 @@ called (ReadCpuInterface v offset width) s = readV2CpuInterface v offset width s
 called (WriteCpuInterface v offset width value) s = writeV2CpuInterface v offset width value s
 called (SetLevel v n asserted) s = deviceLevel v n asserted s
 called (Pulse v n) s = devicePulse v n s
+
+-- What kind of call it is: what is said of calls goes by this, and not by the calls. A call acts on the controller that is lent: it
+pub data Action : Type 0 where
+  -- looks and changes nothing, as a vCPU or as nobody;
+  Looks : Option ℕ → Action
+  -- reads a vCPU's CPU interface at this place;
+  ReadsRegister : ℕ → CpuInterfaceAccess → Action
+  -- writes there, this value;
+  WritesRegister : ℕ → CpuInterfaceAccess → ℕ → Action
+  -- writes the Distributor at this place, as a vCPU, by this width and value;
+  WritesPlace : ℕ → DistributorAccess → AccessWidth → ℕ → Action
+  -- signals this number, as a vCPU meets it;
+  Signals : ℕ → ℕ → Signal → Action
+
+-- or it starts one anew, of this count and limit
+pub data Deed : Type 0 where
+  Starts : ℕ → ℕ → Deed
+  Acts : Action → Deed
+
+-- "Bits of a written value above the access width are ignored"
+abbrev pub deed : Call → Deed
+deed (Setup count limit) = Starts count limit
+deed (ReadDistributor v offset width) = Acts (Looks (some v))
+deed (WriteDistributor v offset width value) = Acts (WritesPlace v (locateDistributor offset width) width (value % 2 ^ 32))
+deed (ReadCpuInterface v offset width) = Acts (ReadsRegister v (locateCpuInterface offset width))
+deed (WriteCpuInterface v offset width value) = Acts (WritesRegister v (locateCpuInterface offset width) (value % 2 ^ 32))
+deed (SetLevel v n asserted) = Acts (Signals v n (Level asserted))
+deed (Pulse v n) = Acts (Signals v n Edge)
+
+abbrev pub startsAnew : Deed → Bool
+startsAnew (Starts count limit) = true
+startsAnew (Acts a) = false
+
+abbrev pub isSetup : Call → Bool
+isSetup c = startsAnew (deed c)
 
 -- a guest's calls: a ring (a write to SGIR), an acknowledge (a read of IAR), an end (a write to EOIR), a deactivation (a write to DIR)
 abbrev pub sgirWrite : ℕ → ℕ → Call

@@ -1,3 +1,4 @@
 pub mod History
+pub mod Made
 pub mod Refusals
 pub mod Touch

@@ -26,7 +26,7 @@ use Rattle.answer.proofs.Present.{present}
 pub changed-sound : (shape : Shape) (v n : ℕ) (f : InterruptRecord → InterruptRecord) (s : List ℕ) → Sound shape s → RecordThere shape v n → Sound shape (changed shape v n f s)
 changed-sound shape v n f s h there =
     depths-sound shape s _ h (put-room shape s (recordSlot v n) _ (h .state))
-    (λ u x. put-other shape s (Interface u Depth) (recordSlot v n) _ x (record-exists shape v n there) (apart-record (Interface u Depth) v n (λ q. omega arith)))
+    (λ u x. put-other shape s (Interface u Depth) (recordSlot v n) _ x (record-exists shape v n there) (apart-record (Interface u Depth) v n refl))
 
 abbrev Below : Shape → InputNumber → Type 0
 Below shape (Device n) = n .0 < shape .limit

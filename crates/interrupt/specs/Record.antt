@@ -145,3 +145,7 @@ complete r = withPending (cond (held r) true (r .pending)) (withActive false r)
 -- `deliverable`
 unfoldable pub deliverable : InterruptRecord → Bool
 deliverable r = r .enabled && r .pending
+
+-- "enabled, pending, not active" (01, CPU interface places, Candidate)
+abbrev pub isReady : InterruptRecord → Bool
+isReady r = r .enabled && r .pending && not (r .active)

@@ -32,6 +32,14 @@ isPrivateId n = ltb (n .0) 32
 abbrev pub priorityOf : ℕ → Priority
 priorityOf byte = record { 0 = byte }
 
+-- the running priority of a vCPU that serves nothing: "the newest on the stack, or 255"
+abbrev pub idlePriority : ℕ
+idlePriority = 255
+
+-- a byte with a bit for each of 8 vCPUs: all of them
+abbrev pub everyVcpu : ℕ
+everyVcpu = 255
+
 -- "SGIs start enabled and edge; the others disabled and level"
 unfoldable pub startingTrigger : IntId → TriggerMode
 startingTrigger n = cond (isSgi n) Edge Level

@@ -4,26 +4,28 @@ use mathlib.Core.List.{List}
 use Prim.Native.Nat.{ℕ, zero, suc, _+_, _≤_, _<_}
 use native.Mathlib.Omega.{arith}
 use borrow.Author.Tests.{lt-ltb}
+use Rattle.interrupt.specs.Types.{idlePriority}
+use Rattle.state.specs.Layout.{stackCapacity}
 use Rattle.state.specs.declared.layout.Shape.{Shape}
-use Rattle.state.specs.declared.words.Entry.{Entry}
+use Rattle.select.specs.declared.Candidate.{Candidate}
 use Rattle.select.specs.declared.Selected.{Selected}
 use Rattle.select.specs.declared.Selected.the-variants.{Best, Nothing}
 use Rattle.service.specs.Service.{depthAt, runningOf, running}
 use Rattle.service.proofs.Stacks.{stack-newest}
 use Rattle.acknowledge.specs.Acknowledge.{offer, answered, acknowledge, refusalOf}
-use Rattle.acknowledge.proofs.Offers.{offer-is}
+use Rattle.acknowledge.proofs.Offers.{pushed-below}
 use Rattle.lawful.specs.Lawful.{priorityAt, Orderly}
 
 module _ (shape : Shape) (v : ℕ) (s : List ℕ) (h : Orderly shape s) (exists : v < shape .count) where
-  -- each entry lies as far below 255 as there are older ones, and one more
-  pub older-above : (i : ℕ) → i < depthAt shape v s → priorityAt shape v i s + i < 255
+  -- each entry lies as far below the idle priority as there are older ones, and one more
+  pub older-above : (i : ℕ) → i < depthAt shape v s → priorityAt shape v i s + i < idlePriority
   older-above zero b = omega (arith, h .below-idle v zero exists b)
   older-above (suc i) b = omega (arith, older-above i (omega arith), h .falling v i (suc i) exists (omega arith) b)
 
-  pub at-most-255 : depthAt shape v s ≤ 255
-  at-most-255 = go (depthAt shape v s) refl
+  pub at-most-capacity : depthAt shape v s ≤ stackCapacity
+  at-most-capacity = go (depthAt shape v s) refl
     where
-      go : (d : ℕ) → depthAt shape v s ≡ d → d ≤ 255
+      go : (d : ℕ) → depthAt shape v s ≡ d → d ≤ stackCapacity
       go zero p = omega arith
       go (suc d) p = omega (arith, older-above d (omega arith))
 
@@ -32,12 +34,12 @@ module _ (shape : Shape) (v : ℕ) (s : List ℕ) (h : Orderly shape s) (exists 
   running-newest d p = ap runningOf (stack-newest shape v s d p)
 
   -- what is handed out finds room
-  pub offer-room : (e : Entry) → offer shape v s ≡ Best e → depthAt shape v s < 255
+  pub offer-room : (e : Candidate) → offer shape v s ≡ Best e → depthAt shape v s < stackCapacity
   offer-room e p = go (depthAt shape v s) refl
     where
-      go : (d : ℕ) → depthAt shape v s ≡ d → d < 255
+      go : (d : ℕ) → depthAt shape v s ≡ d → d < stackCapacity
       go zero q = omega arith
-      go (suc d) q = omega (arith, older-above d (omega arith), offer-is shape v s e p .preempts, running-newest d q)
+      go (suc d) q = omega (arith, older-above d (omega arith), pushed-below shape v s e p, running-newest d q)
 
   pub never-full : refusalOf (acknowledge shape v s) ≡ 0
   unfolding answered
@@ -45,4 +47,4 @@ module _ (shape : Shape) (v : ℕ) (s : List ℕ) (h : Orderly shape s) (exists 
     where
       go : (b : Selected) → offer shape v s ≡ b → refusalOf (answered shape v s b) ≡ 0
       go Nothing p = refl
-      go (Best e) p = simp (lt-ltb (depthAt shape v s) 255 (offer-room e p))
+      go (Best e) p = simp (lt-ltb (depthAt shape v s) stackCapacity (offer-room e p))

@@ -14,11 +14,12 @@ use Rattle.word.specs.Word.{recordOf, wordOf}
 use Rattle.word.proofs.RecordWord.{decode-encode}
 use Rattle.state.specs.declared.layout.Shape.{Shape}
 use Rattle.state.specs.declared.layout.InterfaceValue.the-variants.{Depth}
-use Rattle.state.specs.Fresh.{startOf, fresh}
+use Rattle.state.specs.Fresh.{fresh}
 use Rattle.state.specs.Layout.{Slot, Interface, Sources, Private, Spi, Room}
-use Rattle.state.specs.Words.{recordSlot, RecordThere, recordAt}
+use Rattle.state.specs.Words.{recordSlot, RecordThere, recordAt, startOf}
 use Rattle.state.proofs.Accessors.{record-exists}
-use Rattle.state.proofs.Starting.{fresh-word, fresh-held, fresh-canonical, starting-in-range}
+use Rattle.state.proofs.Places.{starting-in-range}
+use Rattle.state.proofs.Starting.{fresh-word, fresh-held, fresh-canonical}
 use Rattle.service.specs.Service.{depthAt}
 use Rattle.lawful.specs.Lawful.{OrderlyRecord, LawfulRecord, Orderly, Lawful, Controls}
 

@@ -6,6 +6,7 @@ use mathlib.Core.Bool.{true, false, not}
 use mathlib.Core.List.{List}
 use Prim.Native.Nat.{ℕ, _^_, _<_}
 use lib.Dec.{eqb}
+use Rattle.interrupt.specs.Types.{idlePriority}
 use Rattle.interrupt.specs.declared.record.CpuTargetMask.the-variants.{Unset}
 use Rattle.interrupt.specs.declared.record.InterruptRecord.{InterruptRecord}
 use Rattle.interrupt.specs.declared.record.Owner.{Owner}
@@ -40,7 +41,7 @@ pub record Orderly (shape : Shape) (s : List ℕ) : Type 0 where
   -- "On every vCPU the priorities under service fall strictly from the oldest to the newest ..
   pub falling : (v i j : ℕ) → v < shape .count → i < j → j < depthAt shape v s → priorityAt shape v j s < priorityAt shape v i s
   -- .. and lie below 255"
-  pub below-idle : (v i : ℕ) → v < shape .count → i < depthAt shape v s → priorityAt shape v i s < 255
+  pub below-idle : (v i : ℕ) → v < shape .count → i < depthAt shape v s → priorityAt shape v i s < idlePriority
   pub records : (v n : ℕ) → RecordThere shape v n → OrderlyRecord shape (recordAt shape v n s)
   -- "an SGI is pending at a vCPU exactly when a source bit is set there"
   pub sourced : (v n : ℕ) → v < shape .count → n < 16 → recordAt shape v n s .pending ≡ not (eqb (sourcesAt shape v n s) 0)

@@ -6,37 +6,32 @@ use mathlib.Core.Logic.{inl}
 use Prim.Native.Nat.{ℕ, _-_, _<_}
 use native.Mathlib.Omega.{arith}
 use lib.Dec.{eqb}
-use Rattle.interrupt.specs.declared.record.InterruptRecord.{InterruptRecord}
 use Rattle.interrupt.specs.Record.{setPending}
 use Rattle.word.proofs.Cases.{same-or}
 use Rattle.word.proofs.RecordWord.{decoded-in-range}
 use Rattle.state.specs.declared.layout.Shape.{Shape}
 use Rattle.state.specs.declared.layout.InterfaceValue.{InterfaceValue}
-use Rattle.state.specs.declared.layout.InterfaceValue.the-variants.{Control, PriorityMask, BinaryPoint, Depth}
+use Rattle.state.specs.declared.layout.InterfaceValue.the-variants.{Depth}
 use Rattle.state.specs.Layout.{DistributorControl, Interface, Sources, Stack, Exists, Room}
 use Rattle.state.specs.Words.{wordAt, recordSlot, RecordThere, recordAt, sourcesAt, withSources, Canonical}
 use Rattle.state.proofs.Accessors.{put-room, record-exists, record-same}
-use Rattle.state.proofs.Canonical.{OffStack, record-canonical, sources-canonical, interface-canonical, enabled-canonical}
+use Rattle.state.proofs.Canonical.{off-stack-apart, record-canonical, sources-canonical, interface-canonical, control-canonical}
 use Rattle.state.proofs.SlotKinds.{kinds-apart, apart-record, record-apart}
 use Rattle.sgi.specs.Sgi.{mergedSources}
 use Rattle.sgi.proofs.Rings.{sgi-exists, merged-fits, both-sources, both-record, pended}
 use Rattle.service.specs.Service.{depthAt, Sound}
 use Rattle.service.proofs.Stacks.{popped-depth, popped-others}
+use Rattle.acknowledge.proofs.Offers.{pushed-byte}
 use Rattle.delivery.proofs.Canonicals.{given-canonical, popped-canonical}
 use Rattle.lawful.specs.Lawful.{Lawful, Controls}
-use Rattle.moves.specs.Moves.{Change, Move, Changed, Sourced, Kept, Switched, Given, Popped, becomes, moved, OffDepth, Changing, Sourcing, Keeping, Popping, Open, Chain}
+use Rattle.moves.specs.Moves.{Change, Move, Changed, Sourced, Kept, Switched, Given, Popped, becomes, moved, Changing, Sourcing, Keeping, Popping, Open, Chain}
 use Rattle.moves.proofs.Parts.{StackFine, SgiFine, record-fine}
-use Rattle.moves.proofs.Records.{change-fine, sgi-pending, pended-fine, change-in-range}
-use Rattle.moves.proofs.Slots.{no-number, served, givable}
-use Rattle.moves.proofs.Sounds.{lawful-sound, kept-apart, chain-holds}
+use Rattle.moves.proofs.Pending.{left-unheld}
+use Rattle.moves.proofs.Records.{change-fine, unheld, sgi-pending, pended-fine, change-in-range}
+use Rattle.moves.proofs.Slots.{no-number, off-stack, stack-vcpu, served, givable}
+use Rattle.moves.proofs.Sounds.{lawful-sound, chain-holds}
 use Rattle.moves.proofs.Frames.{record-off-stack, stack, sources-stay, only-stacks, one-number}
-use Rattle.moves.proofs.Gives.{byte, given-lawful}
-
-off-stack : (v : ℕ) (k : InterfaceValue) → OffDepth k → OffStack (Interface v k)
-off-stack v Control off = tt
-off-stack v PriorityMask off = tt
-off-stack v BinaryPoint off = tt
-off-stack v Depth off = off
+use Rattle.moves.proofs.Gives.{given-lawful}
 
 module _ (shape : Shape) (s : List ℕ) (h : Lawful shape s) where
   sound : Sound shape s
@@ -60,13 +55,13 @@ module _ (shape : Shape) (s : List ℕ) (h : Lawful shape s) where
         let exists : v < shape .count = o .there .banked (omega (arith, sgi)) in
         let old = record-fine shape s h v n (o .there) in
         let sources : wordAt shape (Sources v n) (moved shape (Changed v n c) s) ≡ wordAt shape (Sources v n) s =
-        sources-stay shape s h (Changed v n c) o v n exists sgi (apart-record (Sources v n) v n (λ q. omega arith)) in
+        sources-stay shape s h (Changed v n c) o v n exists sgi (apart-record (Sources v n) v n refl) in
         record { sourced = rw (sources, changed-record) (sgi-pending old c (o .fits) sgi ∙ h .orderly .sourced v n exists sgi) }
 
     changed-lawful : Lawful shape (moved shape (Changed v n c) s)
     changed-lawful =
         one-number shape s h (Changed v n c) o v n (o .there) (λ t off p. inl p)
-        (λ u b. stack shape s h (Changed v n c) o u b (apart-record (Interface u Depth) v n (λ q. omega arith)) (λ i. apart-record (Stack u i) v n (λ q. omega arith)))
+        (λ u b. stack shape s h (Changed v n c) o u b (apart-record (Interface u Depth) v n refl) (λ i. apart-record (Stack u i) v n refl))
         (rw changed-record (change-fine (record-fine shape s h v n (o .there)) c (o .fits)))
         changed-sgi
 
@@ -94,31 +89,27 @@ module _ (shape : Shape) (s : List ℕ) (h : Lawful shape s) where
         both-sources shape v n s (h .in-range .state) (o .exists, o .sgi) sources below (λ r. setPending r (not (eqb sources 0)))
         (pended shape v n s (h .in-range .state) (o .exists, o .sgi) (not (eqb sources 0)))
 
-    pending-set : (r : InterruptRecord) (p : Bool) → setPending r p .pending ≡ p
-    unfolding setPending
-    pending-set r p = refl
-
     sourced-lawful : Lawful shape sourced
     sourced-lawful =
         one-number shape s h (Sourced v n on byte) o v n there (λ t off p. p)
-        (λ u b. stack shape s h (Sourced v n on byte) o u b (no-number v n (Interface u Depth) (λ q. omega arith) (λ q. omega arith)) (λ i. no-number v n (Stack u i) (λ q. omega arith) (λ q. omega arith)))
+        (λ u b. stack shape s h (Sourced v n on byte) o u b (no-number v n (Interface u Depth) refl refl) (λ i. no-number v n (Stack u i) refl refl))
         (rw sourced-record (pended-fine (not (eqb sources 0)) (record-fine shape s h v n there)))
-        (λ sgi. record { sourced = rw (sourced-sources, sourced-record) (pending-set (recordAt shape v n s) (not (eqb sources 0))) })
+        (λ sgi. record { sourced = rw (sourced-sources, sourced-record) (left-unheld (recordAt shape v n s) (unheld (record-fine shape s h v n there) sgi) (not (eqb sources 0))) })
 
-  -- an interface value, the Distributor's enable bit
+  -- an interface value, the Distributor's CTLR
   kept-lawful : (v : ℕ) (k : InterfaceValue) (x : ℕ) → Keeping shape v k → Lawful shape (moved shape (Kept v k x) s)
   kept-lawful v k x o =
       only-stacks shape s h (Kept v k x) o
-      (λ u n. record-apart u n (Interface v k) (λ q. omega arith))
-      (λ u n. kinds-apart (Sources u n) (Interface v k) (λ q. omega arith))
-      (λ u b. stack shape s h (Kept v k x) o u b (kept-apart u v k (o .off-depth)) (λ i. kinds-apart (Stack u i) (Interface v k) (λ q. omega arith)))
+      (λ u n. record-apart u n (Interface v k) refl)
+      (λ u n. kinds-apart (Sources u n) (Interface v k) refl)
+      (λ u b. stack shape s h (Kept v k x) o u b (off-stack-apart (Interface u Depth) (Interface v k) refl (o .off-depth)) (λ i. kinds-apart (Stack u i) (Interface v k) refl))
 
-  switched-lawful : (on : Bool) → Lawful shape (moved shape (Switched on) s)
-  switched-lawful on =
-      only-stacks shape s h (Switched on) tt
-      (λ u n. record-apart u n DistributorControl (λ q. omega arith))
-      (λ u n. kinds-apart (Sources u n) DistributorControl (λ q. omega arith))
-      (λ u b. stack shape s h (Switched on) tt u b (kinds-apart (Interface u Depth) DistributorControl (λ q. omega arith)) (λ i. kinds-apart (Stack u i) DistributorControl (λ q. omega arith)))
+  switched-lawful : (x : ℕ) → Lawful shape (moved shape (Switched x) s)
+  switched-lawful x =
+      only-stacks shape s h (Switched x) tt
+      (λ u n. record-apart u n DistributorControl refl)
+      (λ u n. kinds-apart (Sources u n) DistributorControl refl)
+      (λ u b. stack shape s h (Switched x) tt u b (kinds-apart (Interface u Depth) DistributorControl refl) (λ i. kinds-apart (Stack u i) DistributorControl refl))
 
   -- the newest entry taken
   module _ (v : ℕ) (o : Popping shape v s) where
@@ -129,7 +120,7 @@ module _ (shape : Shape) (s : List ℕ) (h : Lawful shape s) where
     older i d =
         let deep = served shape s sound v (o .exists) .deep in
         popped-others shape v s (served shape s sound v (o .exists)) (o .some) (Stack v i) (o .exists, omega (arith, d, deep))
-        (kinds-apart (Stack v i) (Interface v Depth) (λ q. omega arith)) (λ p. let q : i ≡ depthAt shape v s - 1 = cc in omega (arith, q, d))
+        (kinds-apart (Stack v i) (Interface v Depth) refl) (λ p. let q : i ≡ depthAt shape v s - 1 = cc in omega (arith, q, d))
 
     popped-stack : StackFine shape v (moved shape (Popped v) s)
     popped-stack = record {
@@ -140,14 +131,14 @@ module _ (shape : Shape) (s : List ℕ) (h : Lawful shape s) where
 
     popped-lawful : Lawful shape (moved shape (Popped v) s)
     popped-lawful =
-        only-stacks shape s h (Popped v) o (record-off-stack v) (λ u n p. p)
-        (λ u b. same-or u v (λ p. rw p popped-stack) (λ d. stack shape s h (Popped v) o u b d (λ i. d)))
+        only-stacks shape s h (Popped v) o (record-off-stack v) (λ u n. off-stack v (Sources u n) refl)
+        (λ u b. same-or u v (λ p. rw p popped-stack) (λ d. stack shape s h (Popped v) o u b (λ q. d (stack-vcpu v u (Interface u Depth) refl q)) (λ i q. d (stack-vcpu v u (Stack u i) refl q))))
 
   pub move-lawful : (m : Move) → Open shape m s → Lawful shape (moved shape m s)
   move-lawful (Changed v n c) o = changed-lawful v n c o
   move-lawful (Sourced v n on byte) o = sourced-lawful v n on byte o
   move-lawful (Kept v k x) o = kept-lawful v k x o
-  move-lawful (Switched on) o = switched-lawful on
+  move-lawful (Switched x) o = switched-lawful x
   move-lawful (Given v e) o = given-lawful shape s h v e o
   move-lawful (Popped v) o = popped-lawful v o
 
@@ -165,9 +156,9 @@ module _ (shape : Shape) (s : List ℕ) (h : Lawful shape s) where
       record-canonical shape after (put-room shape s (Sources v n) x (h .in-range .state)) (sources-canonical shape s (h .in-range .state) c v n x slot (below v n on byte o))
       v n (setPending r (not (eqb x 0))) (sgi-exists shape v n (h .in-range .state .limits) slot)
       (pended shape v n s (h .in-range .state) slot (not (eqb x 0)) r (decoded-in-range (wordAt shape (recordSlot v n) after)))
-  move-canonical c (Kept v k x) o = interface-canonical shape s (h .in-range .state) c v k x (o .exists) (off-stack v k (o .off-depth))
-  move-canonical c (Switched on) o = enabled-canonical shape s (h .in-range .state) c on
-  move-canonical c (Given v e) o = given-canonical shape v s (served shape s sound v (o .exists)) c e (givable shape s sound v e o) (byte shape s h v e o)
+  move-canonical c (Kept v k x) o = interface-canonical shape s (h .in-range .state) c v k x (o .exists) (o .off-depth)
+  move-canonical c (Switched x) o = control-canonical shape s (h .in-range .state) c x
+  move-canonical c (Given v e) o = given-canonical shape v s (served shape s sound v (o .exists)) c e (givable shape s sound v e o) (pushed-byte shape v s e (o .offered))
   move-canonical c (Popped v) o = popped-canonical shape v s (served shape s sound v (o .exists)) c (o .some)
 
 pub move-controls : {shape : Shape} {s : List ℕ} → Controls shape s → (m : Move) → Open shape m s → Controls shape (moved shape m s)

@@ -1,14 +1,12 @@
 -- A state after a move, put together from its parts: what the move does not touch is as it was. Assumes nothing.
-use mathlib.Core.Path.{_≡_, sym, _∙_}
-use mathlib.Core.Bool.{Bool, true, false, cond}
+use mathlib.Core.Path.{_≡_, refl, sym, _∙_}
 use mathlib.Core.List.{List}
 use mathlib.Core.Logic.{inl, inr}
 use Prim.Native.Nat.{ℕ, _<_}
 use native.Mathlib.Omega.{arith}
-use lib.Dec.{ltb}
 use Rattle.state.specs.declared.layout.Shape.{Shape}
 use Rattle.state.specs.declared.layout.InterfaceValue.the-variants.{Depth}
-use Rattle.state.specs.Layout.{Slot, Count, Limit, Interface, Sources, Private, Spi, Stack}
+use Rattle.state.specs.Layout.{Slot, Count, Limit, Interface, Sources, Stack}
 use Rattle.state.specs.Lent.{shaped}
 use Rattle.state.specs.Words.{wordAt, recordSlot, RecordThere, recordAt}
 use Rattle.state.proofs.Accessors.{record-exists}
@@ -18,17 +16,13 @@ use Rattle.lawful.specs.Lawful.{Lawful}
 use Rattle.moves.specs.Moves.{Move, moved, Open}
 use Rattle.moves.proofs.Parts.{StackFine, SgiFine, parts-lawful, stack-kept, records-kept, sgis-kept, all-records, all-sgis}
 use Rattle.moves.proofs.Records.{Fine}
-use Rattle.moves.proofs.Slots.{StackOf, Touches, move-room, move-others, touched-kind}
+use Rattle.moves.proofs.Slots.{StackOf, off-stack, Touches, move-room, move-others, touched-kind}
 use Rattle.moves.proofs.Sounds.{lawful-sound}
 
 -- a record is on no stack
 pub record-off-stack : (v u n : ℕ) → StackOf v (recordSlot u n) → ⊥
-unfolding recordSlot
-record-off-stack v u n = go (ltb n 32)
-  where
-    go : (b : Bool) → StackOf v (cond b (Private u n) (Spi n)) → ⊥
-    go true p = p
-    go false p = p
+record-off-stack v u n (inl p) = record-apart u n (Interface v Depth) refl p
+record-off-stack v u n (inr e) = record-apart u n (Stack v (e .index)) refl (e .is)
 
 module _ (shape : Shape) (s : List ℕ) (h : Lawful shape s) where
   module _ (m : Move) (o : Open shape m s) where
@@ -65,11 +59,11 @@ module _ (shape : Shape) (s : List ℕ) (h : Lawful shape s) where
     one-number v n there touched stacks fine own =
         parts-lawful shape r (move-room shape s (lawful-sound h) m o) stored stacks
         (records-kept shape s r h v n there others fine)
-        (sgis-kept shape s r h v n there others fine (λ u k b sgi away. sources-stay u k b sgi (λ p. away (touched (Sources u k) (λ q. q) p))) own)
+        (sgis-kept shape s r h v n there others fine (λ u k b sgi away. sources-stay u k b sgi (λ p. away (touched (Sources u k) (off-stack v (Sources u k) refl) p))) own)
       where
         not-own : (u k : ℕ) → (recordSlot u k ≡ recordSlot v n → ⊥) → Of v n (recordSlot u k) → ⊥
         not-own u k away (inl p) = away p
-        not-own u k away (inr p) = record-apart u k (Sources v n) (λ q. omega arith) p
+        not-own u k away (inr p) = record-apart u k (Sources v n) refl p
 
         others : (u k : ℕ) → RecordThere shape u k → (recordSlot u k ≡ recordSlot v n → ⊥) → wordAt shape (recordSlot u k) r ≡ wordAt shape (recordSlot u k) s
         others u k x away = record-stays u k x (λ p. not-own u k away (touched (recordSlot u k) (record-off-stack v u k) p))

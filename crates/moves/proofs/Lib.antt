@@ -4,6 +4,7 @@ pub mod Controllers
 pub mod Frames
 pub mod Gives
 pub mod Parts
+pub mod Pending
 pub mod Records
 pub mod Slots
 pub mod Sounds

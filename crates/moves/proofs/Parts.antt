@@ -6,11 +6,12 @@ use mathlib.Core.Logic.{inl, inr}
 use Prim.Native.Nat.{ℕ, _<_}
 use native.Mathlib.Omega.{arith}
 use lib.Dec.{eqb}
+use Rattle.interrupt.specs.Types.{idlePriority}
 use Rattle.word.specs.Word.{recordOf}
 use Rattle.word.proofs.Cases.{same-or}
 use Rattle.state.specs.declared.layout.Shape.{Shape}
 use Rattle.state.specs.declared.layout.InterfaceValue.the-variants.{Depth}
-use Rattle.state.specs.Layout.{Slot, Count, Limit, Interface, Sources, Stack, Room}
+use Rattle.state.specs.Layout.{Slot, Count, Limit, Interface, Sources, Stack, Room, stackCapacity}
 use Rattle.state.specs.Lent.{shaped}
 use Rattle.state.specs.Words.{wordAt, recordSlot, RecordThere, recordAt, sourcesAt, entryAt}
 use Rattle.state.proofs.Accessors.{record-exists, same-or-other, records-apart}
@@ -18,13 +19,13 @@ use Rattle.state.proofs.Numbers.{Of, one-vcpu}
 use Rattle.state.proofs.SlotKinds.{apart-record}
 use Rattle.service.specs.Service.{depthAt}
 use Rattle.lawful.specs.Lawful.{priorityAt, Orderly, Lawful}
-use Rattle.lawful.proofs.Depths.{at-most-255}
+use Rattle.lawful.proofs.Depths.{at-most-capacity}
 use Rattle.moves.proofs.Records.{Fine, fine-for}
 
 -- what is asked of a stack
 pub record StackFine (shape : Shape) (v : ℕ) (s : List ℕ) : Type 0 where
   pub falling : (i j : ℕ) → i < j → j < depthAt shape v s → priorityAt shape v j s < priorityAt shape v i s
-  pub below-idle : (i : ℕ) → i < depthAt shape v s → priorityAt shape v i s < 255
+  pub below-idle : (i : ℕ) → i < depthAt shape v s → priorityAt shape v i s < idlePriority
   pub numbered : (i : ℕ) → i < depthAt shape v s → entryAt shape v i s .intid .0 < shape .limit
 
 -- and of an SGI with its sources
@@ -54,13 +55,13 @@ module _ (shape : Shape) (r : List ℕ)
     orderly = orderly;
     records = λ v n there. records v n there .lawful;
     numbered = λ v i b d. stacks v b .numbered i d;
-    in-range = record { stored = stored; state = room; depths = λ v b. at-most-255 shape v r orderly b };
+    in-range = record { stored = stored; state = room; depths = λ v b. at-most-capacity shape v r orderly b };
   }
 
 -- a stack whose words stay
 module _ (shape : Shape) (v : ℕ) (s r : List ℕ) (h : Lawful shape s) (exists : v < shape .count)
     (depth : wordAt shape (Interface v Depth) r ≡ wordAt shape (Interface v Depth) s)
-    (words : (i : ℕ) → i < 255 → wordAt shape (Stack v i) r ≡ wordAt shape (Stack v i) s) where
+    (words : (i : ℕ) → i < stackCapacity → wordAt shape (Stack v i) r ≡ wordAt shape (Stack v i) s) where
   pub stack-kept : StackFine shape v r
   stack-kept = record {
     falling = λ i j k d. rw (entry j (depth-in d), entry i (omega (arith, k, depth-in d))) (h .orderly .falling v i j exists k (depth-in d));
@@ -72,7 +73,7 @@ module _ (shape : Shape) (v : ℕ) (s r : List ℕ) (h : Lawful shape s) (exists
       depth-in d = rw depth at d
 
       entry : (i : ℕ) → i < depthAt shape v s → wordAt shape (Stack v i) r ≡ wordAt shape (Stack v i) s
-      entry i d = words i (omega (arith, d, at-most-255 shape v s (h .orderly) exists))
+      entry i d = words i (omega (arith, d, at-most-capacity shape v s (h .orderly) exists))
 
 -- records and SGIs of which at most one number's slots change
 module _ (shape : Shape) (s r : List ℕ) (h : Lawful shape s) where
@@ -112,7 +113,7 @@ module _ (shape : Shape) (s r : List ℕ) (h : Lawful shape s) where
             sgi-same u m (others u m x a) (sources u m b sgi (apart c)) b sgi
           where
             apart : (Sources u m ≡ Sources v n → ⊥) → Of v n (Sources u m) → ⊥
-            apart c (inl p) = apart-record (Sources u m) v n (λ q. omega arith) p
+            apart c (inl p) = apart-record (Sources u m) v n refl p
             apart c (inr p) = c p
 
   -- .. or none's

@@ -8,7 +8,7 @@ use lib.Pow.{pow-mono}
 use borrow.Author.Tests.{not-true}
 use Rattle.interrupt.specs.declared.record.InterruptRecord.{InterruptRecord}
 use Rattle.interrupt.specs.declared.record.Owner.the-variants.{Nobody}
-use Rattle.interrupt.specs.Record.{setEnabled, setPending, setActive, cancelInflight, setPriority, setTrigger, setCpuTargetMask, setOwner, setState, setLevel, pulse, complete, markInflight, synchronizeInflight, deactivateInflight, held, risesInService, fallsIdle}
+use Rattle.interrupt.specs.Record.{setEnabled, setPending, setActive, cancelInflight, setPriority, setTrigger, setCpuTargetMask, setOwner, setState, setLevel, pulse, complete, clearDeliveryState, markInflight, synchronizeInflight, deactivateInflight, held, risesInService, fallsIdle}
 use Rattle.word.specs.Word.{InRange}
 use Rattle.state.specs.declared.layout.Shape.{Shape}
 use Rattle.state.specs.Layout.{Limits}
@@ -16,7 +16,7 @@ use Rattle.state.proofs.Tests.{left-true, right-true}
 use Rattle.acknowledge.specs.Acknowledge.{givenRecord}
 use Rattle.end.specs.End.{retire}
 use Rattle.lawful.specs.Lawful.{Charged, OrderlyRecord, LawfulRecord}
-use Rattle.moves.specs.Moves.{Change, SetEnabled, SetPending, SetActive, CancelInflight, SetTrigger, SetPriority, SetCpuTargetMask, SetLevel, Pulse, DeactivateInflight, Complete, becomes, Fits}
+use Rattle.moves.specs.Moves.{Change, SetEnabled, SetPending, SetActive, CancelInflight, SetTrigger, SetPriority, SetCpuTargetMask, SetLevel, Pulse, DeactivateInflight, Complete, ClearDeliveryState, becomes, Fits}
 
 -- all that a lawful state asks of one record
 pub record Fine (shape : Shape) (v n : ℕ) (r : InterruptRecord) : Type 0 where
@@ -76,7 +76,7 @@ module _ {shape : Shape} {v n : ℕ} {r : InterruptRecord} (h : Fine shape v n r
 
   -- .. or if it is no longer in flight, and nobody's
   idled : (q : InterruptRecord) → q .inflight ≡ false → q .«redelivery_pending» ≡ false → q .owner ≡ Nobody
-      → q .«line_asserted» ≡ r .«line_asserted» → q .trigger ≡ r .trigger → q .«cpu_target_mask» ≡ r .«cpu_target_mask» → Fine shape v n q
+      → (n < 16 → q .«line_asserted» ≡ r .«line_asserted») → q .trigger ≡ r .trigger → q .«cpu_target_mask» ≡ r .«cpu_target_mask» → Fine shape v n q
   idled q i d o l t m = record {
     orderly = record {
       active = λ e. absurd (false≢true (sym i ∙ e));
@@ -85,7 +85,7 @@ module _ {shape : Shape} {v n : ℕ} {r : InterruptRecord} (h : Fine shape v n r
     };
     lawful = record {
       sgi-edge = λ b. t ∙ h .lawful .sgi-edge b;
-      sgi-low = λ b. l ∙ h .lawful .sgi-low b;
+      sgi-low = λ b. l b ∙ h .lawful .sgi-low b;
       sgi-unnoted = λ b. d;
       existing = rw m (h .lawful .existing);
       unmasked = λ b. m ∙ h .lawful .unmasked b;
@@ -97,7 +97,7 @@ module _ {shape : Shape} {v n : ℕ} {r : InterruptRecord} (h : Fine shape v n r
   -- a record that is not in flight may be active or not
   settled : (q : InterruptRecord) → r .inflight ≡ false → q .inflight ≡ r .inflight → q .«redelivery_pending» ≡ r .«redelivery_pending» → q .owner ≡ r .owner
       → q .«line_asserted» ≡ r .«line_asserted» → q .trigger ≡ r .trigger → q .«cpu_target_mask» ≡ r .«cpu_target_mask» → Fine shape v n q
-  settled q f i d o l t m = idled q (i ∙ f) (d ∙ unnoted (r .«redelivery_pending») refl) (o ∙ h .lawful .idle f) l t m
+  settled q f i d o l t m = idled q (i ∙ f) (d ∙ unnoted (r .«redelivery_pending») refl) (o ∙ h .lawful .idle f) (λ b. l) t m
     where
       unnoted : (b : Bool) → r .«redelivery_pending» ≡ b → b ≡ false
       unnoted true e = absurd (true≢false (sym (h .orderly .noted e) ∙ f))
@@ -120,12 +120,12 @@ module _ {shape : Shape} {v n : ℕ} {r : InterruptRecord} (h : Fine shape v n r
   rises a e = left-true (r .inflight) (r .active) (left-true (r .inflight && r .active) (a && not (r .«line_asserted»)) e)
 
   pub change-fine : (c : Change) → Fits shape v n c r → Fine shape v n (becomes c r)
-  unfolding setEnabled setPending setActive cancelInflight setOwner setTrigger setPriority setCpuTargetMask setLevel pulse retire deactivateInflight complete
+  unfolding setEnabled setPending setActive cancelInflight setOwner setTrigger setPriority setCpuTargetMask setLevel pulse retire deactivateInflight complete clearDeliveryState
   change-fine (SetEnabled e) f = same (setEnabled r e) (h .orderly .active) refl refl refl refl refl refl
   change-fine (SetPending p) f = no-sgi (setPending r p) f refl refl (pending-noted p) refl refl
   change-fine (SetActive true) f = same (setActive r true) (λ e. refl) refl refl refl refl refl refl
   change-fine (SetActive false) f = settled (setActive r false) f refl refl refl refl refl refl
-  change-fine CancelInflight f = idled (becomes CancelInflight r) refl refl refl refl refl refl
+  change-fine CancelInflight f = idled (becomes CancelInflight r) refl refl refl (λ b. refl) refl refl
   change-fine (SetTrigger t) f = no-sgi (setTrigger r t) f refl refl (h .orderly .noted) refl refl
   change-fine (SetPriority q) f = same (becomes (SetPriority q) r) (h .orderly .active) refl refl refl refl refl refl
   change-fine (SetCpuTargetMask m) f = targeted
@@ -145,14 +145,16 @@ module _ {shape : Shape} {v n : ℕ} {r : InterruptRecord} (h : Fine shape v n r
       }
   change-fine (SetLevel a) f = no-sgi (setLevel r a) (omega (arith, f)) refl refl (level-noted (risesInService r a) (fallsIdle r a) (rises a)) refl refl
   change-fine Pulse f = no-sgi (pulse r) f refl refl (pulse-noted (r .inflight) refl) refl refl
-  change-fine DeactivateInflight f = idled (retire r) refl refl refl refl refl refl
+  change-fine DeactivateInflight f = idled (retire r) refl refl refl (λ b. refl) refl refl
   change-fine Complete f = settled (complete r) (not-true (r .inflight) (right-true (r .active) (not (r .inflight)) f)) refl refl refl refl refl refl
+  change-fine ClearDeliveryState f = idled (becomes ClearDeliveryState r) refl refl refl (λ b. absurd (omega (arith, f, b))) refl refl
+
+  -- no SGI's line is held
+  pub unheld : n < 16 → held r ≡ false
+  unfolding held
+  unheld b = rw (h .lawful .sgi-edge b)
 
   -- an SGI's pending bit is its sources' to say: no change of its record touches it
-  low : n < 16 → held r ≡ false
-  unfolding held
-  low b = rw (h .lawful .sgi-edge b)
-
   pub sgi-pending : (c : Change) → Fits shape v n c r → n < 16 → becomes c r .pending ≡ r .pending
   unfolding setEnabled setActive cancelInflight setOwner setPriority retire deactivateInflight complete
   sgi-pending (SetEnabled true) f b = rw (h .lawful .sgi-low b)
@@ -165,8 +167,9 @@ module _ {shape : Shape} {v n : ℕ} {r : InterruptRecord} (h : Fine shape v n r
   sgi-pending (SetCpuTargetMask m) f b = absurd (omega (arith, f .0, b))
   sgi-pending (SetLevel a) f b = absurd (omega (arith, f, b))
   sgi-pending Pulse f b = absurd (omega (arith, f, b))
-  sgi-pending DeactivateInflight f b = rw (low b, h .lawful .sgi-unnoted b) (or-false (r .pending || false) ∙ or-false (r .pending))
-  sgi-pending Complete f b = rw (low b)
+  sgi-pending DeactivateInflight f b = rw (unheld b, h .lawful .sgi-unnoted b) (or-false (r .pending || false) ∙ or-false (r .pending))
+  sgi-pending Complete f b = rw (unheld b)
+  sgi-pending ClearDeliveryState f b = absurd (omega (arith, f, b))
 
 -- a record that is given is in flight, active and this vCPU's; nothing is noted any longer
 pub given-fine : {shape : Shape} {v n : ℕ} {r : InterruptRecord} → Fine shape v n r → v < shape .count → Fine shape v n (givenRecord v r)
@@ -214,7 +217,7 @@ ranged : {r : InterruptRecord} (q : InterruptRecord) → InRange r → q .priori
 ranged q i p m o = record { priority-byte = rw p (i .priority-byte); mask-byte = rw m (i .mask-byte); owner-byte = rw o (i .owner-byte) }
 
 pub change-in-range : (shape : Shape) (v n : ℕ) (r : InterruptRecord) → Limits shape → (c : Change) → Fits shape v n c r → InRange r → InRange (becomes c r)
-unfolding setEnabled setPending setActive cancelInflight setOwner setTrigger setPriority setCpuTargetMask setLevel pulse retire deactivateInflight complete
+unfolding setEnabled setPending setActive cancelInflight setOwner setTrigger setPriority setCpuTargetMask setLevel pulse retire deactivateInflight complete clearDeliveryState
 change-in-range shape v n r l (SetEnabled e) f i = ranged (setEnabled r e) i refl refl refl
 change-in-range shape v n r l (SetPending p) f i = ranged (setPending r p) i refl refl refl
 change-in-range shape v n r l (SetActive a) f i = ranged (setActive r a) i refl refl refl
@@ -226,3 +229,4 @@ change-in-range shape v n r l (SetLevel a) f i = ranged (setLevel r a) i refl re
 change-in-range shape v n r l Pulse f i = ranged (pulse r) i refl refl refl
 change-in-range shape v n r l DeactivateInflight f i = record { priority-byte = i .priority-byte; mask-byte = i .mask-byte; owner-byte = tt }
 change-in-range shape v n r l Complete f i = ranged (complete r) i refl refl refl
+change-in-range shape v n r l ClearDeliveryState f i = record { priority-byte = i .priority-byte; mask-byte = i .mask-byte; owner-byte = tt }

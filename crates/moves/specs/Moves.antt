@@ -9,13 +9,13 @@ use lib.Dec.{eqb}
 use Rattle.interrupt.specs.declared.types.TriggerMode.{TriggerMode}
 use Rattle.interrupt.specs.declared.record.InterruptRecord.{InterruptRecord}
 use Rattle.interrupt.specs.declared.record.Owner.the-variants.{Nobody}
-use Rattle.interrupt.specs.Record.{setEnabled, setPending, setActive, cancelInflight, setPriority, setTrigger, setCpuTargetMask, setOwner, setLevel, pulse, complete}
+use Rattle.interrupt.specs.Record.{setEnabled, setPending, setActive, cancelInflight, setPriority, setTrigger, setCpuTargetMask, setOwner, setLevel, pulse, complete, clearDeliveryState}
 use Rattle.state.specs.declared.layout.Shape.{Shape}
 use Rattle.state.specs.declared.layout.InterfaceValue.{InterfaceValue}
-use Rattle.state.specs.declared.layout.InterfaceValue.the-variants.{Control, PriorityMask, BinaryPoint, Depth}
-use Rattle.state.specs.declared.words.Entry.{Entry}
-use Rattle.state.specs.Words.{RecordThere, recordAt, changed, sourcesAt, withSources, withInterface, withEnabledAt}
+use Rattle.state.specs.Layout.{Interface, onStack, stackCapacity}
+use Rattle.state.specs.Words.{RecordThere, recordAt, changed, sourcesAt, withSources, withInterface, withDistributorControl}
 use Rattle.sgi.specs.Sgi.{mergedSources}
+use Rattle.select.specs.declared.Candidate.{Candidate}
 use Rattle.select.specs.declared.Selected.the-variants.{Best}
 use Rattle.service.specs.Service.{depthAt, popped}
 use Rattle.acknowledge.specs.Acknowledge.{offer, given}
@@ -34,6 +34,7 @@ pub data Change : Type 0 where
   Pulse : Change
   DeactivateInflight : Change
   Complete : Change
+  ClearDeliveryState : Change
 
 abbrev pub becomes : Change → InterruptRecord → InterruptRecord
 becomes (SetEnabled e) r = setEnabled r e
@@ -47,6 +48,7 @@ becomes (SetLevel a) r = setLevel r a
 becomes Pulse r = pulse r
 becomes DeactivateInflight r = retire r
 becomes Complete r = complete r
+becomes ClearDeliveryState r = setOwner (clearDeliveryState r) Nobody
 
 -- when it is done to the record r of the number n by the vCPU v
 abbrev pub Fits : Shape → ℕ → ℕ → Change → InterruptRecord → Type 0
@@ -62,6 +64,7 @@ Fits shape v n (SetLevel a) r = 16 ≤ n
 Fits shape v n Pulse r = 16 ≤ n
 Fits shape v n DeactivateInflight r = servedHere v r ≡ true
 Fits shape v n Complete r = onlyActive r ≡ true
+Fits shape v n ClearDeliveryState r = 32 ≤ n
 
 pub data Move : Type 0 where
   -- the record of a number, as a vCPU meets it
@@ -70,10 +73,10 @@ pub data Move : Type 0 where
   Sourced : ℕ → ℕ → Bool → ℕ → Move
   -- a value of a CPU interface, other than its depth
   Kept : ℕ → InterfaceValue → ℕ → Move
-  -- the Distributor, on or off
-  Switched : Bool → Move
+  -- the Distributor's CTLR
+  Switched : ℕ → Move
   -- an interrupt given to a vCPU
-  Given : ℕ → Entry → Move
+  Given : ℕ → Candidate → Move
   -- a vCPU's newest entry taken from its stack
   Popped : ℕ → Move
 
@@ -85,15 +88,9 @@ abbrev pub moved : Shape → Move → List ℕ → List ℕ
 moved shape (Changed v n c) s = changed shape v n (becomes c) s
 moved shape (Sourced v n on byte) s = resourced shape v n (mergedSources on (sourcesAt shape v n s) byte) s
 moved shape (Kept v k x) s = withInterface shape v k x s
-moved shape (Switched on) s = withEnabledAt shape on s
-moved shape (Given v e) s = given shape v e s
+moved shape (Switched x) s = withDistributorControl shape x s
+moved shape (Given v c) s = given shape v c s
 moved shape (Popped v) s = popped shape v s
-
-abbrev pub OffDepth : InterfaceValue → Type 0
-OffDepth Control = Unit
-OffDepth PriorityMask = Unit
-OffDepth BinaryPoint = Unit
-OffDepth Depth = ⊥
 
 -- when a move is made
 pub record Changing (shape : Shape) (v n : ℕ) (c : Change) (s : List ℕ) : Type 0 where
@@ -107,12 +104,12 @@ pub record Sourcing (shape : Shape) (v n byte : ℕ) : Type 0 where
 
 pub record Keeping (shape : Shape) (v : ℕ) (k : InterfaceValue) : Type 0 where
   pub exists : v < shape .count
-  pub off-depth : OffDepth k
+  pub off-depth : onStack (Interface v k) ≡ false
 
-pub record Giving (shape : Shape) (v : ℕ) (e : Entry) (s : List ℕ) : Type 0 where
+pub record Giving (shape : Shape) (v : ℕ) (c : Candidate) (s : List ℕ) : Type 0 where
   pub exists : v < shape .count
-  pub offered : offer shape v s ≡ Best e
-  pub room : depthAt shape v s < 255
+  pub offered : offer shape v s ≡ Best c
+  pub room : depthAt shape v s < stackCapacity
 
 pub record Popping (shape : Shape) (v : ℕ) (s : List ℕ) : Type 0 where
   pub exists : v < shape .count
@@ -122,8 +119,8 @@ abbrev pub Open : Shape → Move → List ℕ → Type 0
 Open shape (Changed v n c) s = Changing shape v n c s
 Open shape (Sourced v n on byte) s = Sourcing shape v n byte
 Open shape (Kept v k x) s = Keeping shape v k
-Open shape (Switched on) s = Unit
-Open shape (Given v e) s = Giving shape v e s
+Open shape (Switched x) s = Unit
+Open shape (Given v c) s = Giving shape v c s
 Open shape (Popped v) s = Popping shape v s
 
 -- a chain of moves, each of them one that may be made

@@ -32,14 +32,14 @@ depths-sound shape s r h room same = record { state = room; depths = λ u x. rw 
 
 -- a number has a record and a source set, and no depth
 pub no-depth : (u v n : ℕ) → Of v n (Interface u Depth) → ⊥
-no-depth u v n (inl p) = record-apart v n (Interface u Depth) (λ q. omega arith) (sym p)
-no-depth u v n (inr p) = kinds-apart (Interface u Depth) (Sources v n) (λ q. omega arith) p
+no-depth u v n (inl p) = record-apart v n (Interface u Depth) refl (sym p)
+no-depth u v n (inr p) = kinds-apart (Interface u Depth) (Sources v n) refl p
 
 module _ (shape : Shape) (v : ℕ) (place : Place) (w : AccessWidth) (value : ℕ) (s : List ℕ) (h : Sound shape s) (at : PlaceWritten shape v place w value s) where
   control-sound : Sound shape (writeControl shape value s)
   control-sound =
       depths-sound shape s _ h (put-room shape s DistributorControl _ (h .state))
-      (λ u x. put-other shape s (Interface u Depth) DistributorControl _ x tt (kinds-apart (Interface u Depth) DistributorControl (λ q. omega arith)))
+      (λ u x. put-other shape s (Interface u Depth) DistributorControl _ x tt (kinds-apart (Interface u Depth) DistributorControl refl))
 
   ring-sound : Sound shape (writeSgir shape v value s)
   unfolding writeSgir

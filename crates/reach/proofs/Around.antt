@@ -13,8 +13,9 @@ use Rattle.state.specs.Layout.{Slot, Exists, Room}
 use Rattle.state.specs.Loop.{upTo}
 use Rattle.state.specs.Words.{put, recordSlot, RecordThere, recordAt, changed}
 use Rattle.state.proofs.Accessors.{put-length, record-exists}
+use Rattle.state.proofs.Places.{Inner}
 use Rattle.state.proofs.Steps.{Agree}
-use Rattle.reach.proofs.Readings.{Inner, record-inner, record-alike}
+use Rattle.reach.proofs.Readings.{record-inner, record-alike}
 
 -- a change of lent words that no slot sees but the count's and the limit's: each other reads as before, and a word may as well be put before the
 -- change as after it

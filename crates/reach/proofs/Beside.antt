@@ -9,12 +9,11 @@ use lib.ListN.{length, getD, set, drop, List·getD-append}
 use lib.Seq.{set-append-left}
 use Rattle.state.specs.declared.layout.Shape.{Shape}
 use Rattle.state.specs.declared.lent.Lent.the-variants.{Sound}
-use Rattle.state.specs.Layout.{Slot, Count, Limit, DistributorControl, Interface, Sources, Private, Spi, Stack, place, Exists, Room}
+use Rattle.state.specs.Layout.{Slot, place, Exists, Room}
 use Rattle.state.specs.Lent.{validated}
-use Rattle.state.proofs.Places.{place-inside}
+use Rattle.state.proofs.Places.{place-inside, inner-place}
 use Rattle.state.proofs.Validated.{validated-held}
 use Rattle.history.specs.History.{Call, isSetup, called}
-use Rattle.reach.proofs.Readings.{Inner}
 use Rattle.reach.proofs.Around.{Around}
 use Rattle.reach.proofs.Calls.{call-carries}
 
@@ -29,16 +28,6 @@ behind shape x = record {
     inside s h t e = omega (arith, place-inside shape t (h .limits) e, h .room)
 
 -- the first two words
-inner-place : (shape : Shape) (t : Slot) → Inner t → 2 ≤ place shape t
-inner-place shape Count inner = inner
-inner-place shape Limit inner = inner
-inner-place shape DistributorControl inner = omega arith
-inner-place shape (Interface v k) inner = omega arith
-inner-place shape (Sources v n) inner = omega arith
-inner-place shape (Private v n) inner = omega arith
-inner-place shape (Spi n) inner = omega arith
-inner-place shape (Stack v i) inner = omega arith
-
 module _ (count limit : ℕ) where
   abbrev headed : List ℕ → List ℕ
   headed s = count ∷ limit ∷ drop 2 s

@@ -1,11 +1,11 @@
 -- Every call on a state goes through a change of lent words that the slots do not see: it hands out the same, and leaves the changed words as it
 -- would have left the others, changed. Assumes nothing.
-use mathlib.Core.Path.{_≡_, refl, ap}
+use mathlib.Core.Path.{_≡_, refl}
 use mathlib.Core.Bool.{true, Bool, true≢false, false}
 use mathlib.Core.List.{List}
 use Prim.Native.Nat.{ℕ, _%_, _^_}
 use native.Mathlib.Omega.{arith}
-use lib.Dec.{eqb, ltb}
+use lib.Dec.{ltb}
 use Rattle.register.specs.declared.frame.AccessWidth.{AccessWidth}
 use Rattle.register.specs.declared.frame.Refusal.the-variants as refusal
 use Rattle.register.specs.declared.ranges.Class.{Class}
@@ -15,10 +15,10 @@ use Rattle.register.specs.declared.distributor.DistributorAccess.{DistributorAc
 use Rattle.register.specs.declared.distributor.DistributorAccess.the-variants as distributor
 use Rattle.register.specs.Distributor.{locateDistributor}
 use Rattle.register.specs.Frame.{bytes}
-use Rattle.word.specs.Word.{bitOf}
 use Rattle.state.specs.declared.layout.Shape.{Shape}
 use Rattle.state.specs.Layout.{DistributorControl}
-use Rattle.state.specs.Words.{changed, enabledAt}
+use Rattle.state.specs.Words.{keptDistributorControl, changed, enabledAt}
+use Rattle.state.proofs.Places.{Inner}
 use Rattle.state.proofs.Steps.{Agree}
 use Rattle.service.specs.Service.{Sound}
 use Rattle.places.specs.Places.{sends, readPlaceLooksUp, writePlaceLooksUp, readClass, writeClass, readPlace, writePlace, PlaceRead, PlaceWritten}
@@ -31,7 +31,7 @@ use Rattle.input.specs.declared.InputNumber.{InputNumber}
 use Rattle.input.specs.declared.InputNumber.the-variants.{Device, Outside}
 use Rattle.input.specs.Input.{signalled, inputOf, inputAt, deviceInput}
 use Rattle.input.proofs.Passed.{input-there, changed-sound}
-use Rattle.reach.proofs.Readings.{Inner, enabled-alike, bits-alike, bytes-alike}
+use Rattle.reach.proofs.Readings.{control-alike, enabled-alike, bits-alike, bytes-alike}
 use Rattle.reach.proofs.Around.{Around, Passes, none-passes, if-through, put-through, changed-through}
 use Rattle.reach.proofs.Distributor.{bits-through, bytes-through, sgir-through}
 use Rattle.reach.proofs.Outcomes.{Carries, refused-carries, gave-carries, looked-carries, went-carries, with-carries}
@@ -57,7 +57,7 @@ module _ {shape : Shape} {wrap : List ℕ → List ℕ} (around : Around shape w
   -- the Distributor
   module _ (v : ℕ) (width : AccessWidth) (place : Place) where
     read-class : PlaceRead shape v place width s → (c : Class) → place .class ≡ c → readClass shape v c (place .first .0) width (wrap s) ≡ readClass shape v c (place .first .0) width s
-    read-class at class.Ctlr e = ap bitOf (enabled-alike same)
+    read-class at class.Ctlr e = control-alike same
     read-class at class.Typer e = refl
     read-class at class.Iidr e = refl
     read-class at class.Sgir e = refl
@@ -69,7 +69,7 @@ module _ {shape : Shape} {wrap : List ℕ → List ℕ} (around : Around shape w
 
     module _ (value : ℕ) where
       write-class : PlaceWritten shape v place width value s → (c : Class) → place .class ≡ c → Passes wrap (writeClass shape v c (place .first .0) width value) s
-      write-class at class.Ctlr e = put-through around DistributorControl (λ r. bitOf (eqb (value % 2) 1)) tt (omega arith) (λ r k. refl) s (h .state)
+      write-class at class.Ctlr e = put-through around DistributorControl (λ r. keptDistributorControl value) tt (omega arith) (λ r k. refl) s (h .state)
       write-class at class.Typer e = none-passes s
       write-class at class.Iidr e = none-passes s
       write-class at class.Sgir e = if-through (sends value) (λ q. sgir-through around (h .state .limits) v value) s (h .state)

@@ -15,35 +15,29 @@ use Rattle.state.specs.declared.lent.Limited.{Limited}
 use Rattle.state.specs.declared.lent.Limited.the-variants.{Within, Outside}
 use Rattle.state.specs.declared.lent.Lent.{Lent}
 use Rattle.state.specs.declared.lent.Lent.the-variants.{Sound, Broken}
-use Rattle.state.specs.Fresh.{startOf, startedAt, fresh}
-use Rattle.state.specs.Layout.{Interface, size, slotAt, Room}
+use Rattle.state.specs.Fresh.{startedAt, fresh}
+use Rattle.state.specs.Words.{startOf}
+use Rattle.state.specs.Layout.{Interface, size, slotAt, Room, stackCapacity}
 use Rattle.state.specs.Lent.{limited, storedShape, depthFits, lentAs, validated}
 use Rattle.state.specs.Loop.{upTo, everyBelow}
 use Rattle.state.proofs.Starting.{fresh-length}
 use Rattle.state.proofs.Validated.{limited-limits}
 use Rattle.answer.specs.Answer.{refused, gave}
 use Rattle.controller.specs.Start.{setupOf, setup}
-use Rattle.history.specs.History.{Call, Setup, ReadDistributor, WriteDistributor, ReadCpuInterface, WriteCpuInterface, SetLevel, Pulse, isSetup, called}
-use Rattle.history.proofs.Each.{setup-or-other, any-words}
-use Rattle.reach.specs.Reach.{sizeOr, storedExtent, extent}
+use Rattle.history.specs.History.{Call, Deed, Starts, Acts, deed, startsAnew, isSetup, called}
+use Rattle.history.proofs.Each.{setup-or-other, broken-call, any-words}
+use Rattle.reach.specs.Reach.{sizeOr, storedExtent, extentOf, extent}
 use Rattle.reach.proofs.Outcomes.{wrapped, Carries}
 use Rattle.reach.proofs.Calls.{call-carries}
 use Rattle.reach.proofs.Beside.{behind}
 
--- a call on words that are no state
-broken-call : (c : Call) (s : List ℕ) → isSetup c ≡ false → validated s ≡ Broken → called c s ≡ refused BrokenState s
-broken-call c s other p =
-    any-words s (λ d o. o ≡ refused BrokenState s) (λ d e. refl) (λ shape q d e. let z : _≡_ {A = ℕ} 0 1 = cc in absurd (omega arith)) c other
-
 -- every other call has one extent
 pub other-extent : (c : Call) (s : List ℕ) → isSetup c ≡ false → extent c s ≡ storedExtent s
-other-extent (Setup count limit) s e = absurd (true≢false e)
-other-extent (ReadDistributor v offset width) s e = refl
-other-extent (WriteDistributor v offset width value) s e = refl
-other-extent (ReadCpuInterface v offset width) s e = refl
-other-extent (WriteCpuInterface v offset width value) s e = refl
-other-extent (SetLevel v n asserted) s e = refl
-other-extent (Pulse v n) s e = refl
+other-extent c s = go (deed c)
+  where
+    go : (d : Deed) → startsAnew d ≡ false → extentOf d s ≡ storedExtent s
+    go (Starts count limit) e = absurd (true≢false e)
+    go (Acts a) e = refl
 
 two-words : (l : Limited) → 2 ≤ sizeOr 2 l
 two-words Outside = omega arith
@@ -73,7 +67,7 @@ module _ (a x : List ℕ) where
       roomy = le-leb (size shape) (length (a ++ x)) (longer h) ∙ sym (le-leb (size shape) (length a) h)
 
       fits : (v : ℕ) → v < shape .count → depthFits shape (a ++ x) v ≡ depthFits shape a v
-      fits v exists = ap (λ (w : ℕ). leb w 255) (behind shape x .alike a room .agree (Interface v Depth) exists (omega arith))
+      fits v exists = ap (λ (w : ℕ). leb w stackCapacity) (behind shape x .alike a room .agree (Interface v Depth) exists (omega arith))
 
   -- a setup's fill
   module _ (shape : Shape) (h : size shape ≤ length a) where
@@ -111,8 +105,8 @@ module _ (a x : List ℕ) where
         go : (l : Lent) → validated a ≡ l → Carries (λ s. s ++ x) (called c) a
         go (Sound shape) p = call-carries (behind shape x) a p (valid-same ∙ p) c other
         go Broken p =
-            let refuses : called c a ≡ refused BrokenState a = broken-call c a other p in
-            record { same = broken-call c (a ++ x) other (valid-same ∙ p) ∙ ap (wrapped (λ s. s ++ x)) (sym refuses); long = ap (λ o. length (o .state)) refuses }
+            let refuses : called c a ≡ refused BrokenState a = broken-call c other a p .0 in
+            record { same = broken-call c other (a ++ x) (valid-same ∙ p) .0 ∙ ap (wrapped (λ s. s ++ x)) (sym refuses); long = ap (λ o. length (o .state)) refuses }
 
   pub within-extent : (c : Call) → extent c a ≤ length a → Carries (λ s. s ++ x) (called c) a
   unfolding setup
@@ -122,11 +116,11 @@ module _ (a x : List ℕ) where
 
   -- and the extent is the same
   pub same-extent : (c : Call) → extent c (a ++ x) ≤ length a → extent c (a ++ x) ≡ extent c a
-  same-extent =
-      setup-or-other (λ d. extent d (a ++ x) ≤ length a → extent d (a ++ x) ≡ extent d a) (λ count limit h. refl)
-      (λ d other h.
-      let both = other-extent d (a ++ x) other in
-      both ∙ ap (sizeOr 2) (stored-same (omega (arith, two-words (storedShape (a ++ x)), h, both))) ∙ sym (other-extent d a other))
+  same-extent c = go (deed c)
+    where
+      go : (d : Deed) → extentOf d (a ++ x) ≤ length a → extentOf d (a ++ x) ≡ extentOf d a
+      go (Starts count limit) h = refl
+      go (Acts b) h = ap (sizeOr 2) (stored-same (omega (arith, two-words (storedShape (a ++ x)), h)))
 
 -- a call leaves as many words as there were
 pub call-long : (c : Call) (s : List ℕ) → length (called c s .state) ≡ length s

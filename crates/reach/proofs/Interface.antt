@@ -12,19 +12,21 @@ use Rattle.state.specs.declared.layout.Shape.{Shape}
 use Rattle.state.specs.declared.layout.InterfaceValue.{InterfaceValue}
 use Rattle.state.specs.declared.layout.InterfaceValue.the-variants.{Depth}
 use Rattle.state.specs.declared.words.Entry.{Entry}
-use Rattle.state.specs.Layout.{Interface, Stack, Room}
+use Rattle.state.specs.Layout.{Interface, Stack, Room, stackCapacity}
 use Rattle.state.specs.Words.{RecordThere, recordAt, changed, sourcesAt, kept, withInterface, entryWord, withEntry, withoutEntry}
+use Rattle.state.proofs.Places.{Inner}
 use Rattle.state.proofs.Steps.{Agree}
 use Rattle.state.proofs.Tests.{left-true}
 use Rattle.sgi.specs.Sgi.{mergedSources}
+use Rattle.select.specs.declared.Candidate.{Candidate}
 use Rattle.select.specs.declared.Selected.{Selected}
 use Rattle.select.specs.declared.Selected.the-variants.{Best, Nothing}
 use Rattle.service.specs.Service.{depthAt, stackAt, isNewest, pushed, popped, dropped, Served}
 use Rattle.service.proofs.Stacks.{newest-some}
-use Rattle.acknowledge.specs.Acknowledge.{offer, sourceOf, pendIfLeft, sourceTaken, givenRecord, given, taken, acknowledged}
+use Rattle.acknowledge.specs.Acknowledge.{offer, sourceOf, pendIfLeft, sourceTaken, givenRecord, pushedFor, given, taken, acknowledged}
 use Rattle.acknowledge.proofs.Offers.{offer-below}
 use Rattle.end.specs.End.{servedHere, onlyActive, retire, deactivated, retired, deactivates, ended, endRetired}
-use Rattle.reach.proofs.Readings.{Inner, interface-alike, sources-alike, source-of-alike, tested-alike, stack-alike, offer-alike, retired-alike, deactivates-alike}
+use Rattle.reach.proofs.Readings.{interface-alike, sources-alike, source-of-alike, tested-alike, stack-alike, offer-alike, retired-alike, deactivates-alike}
 use Rattle.reach.proofs.Around.{Around, Passes, Through, long-room, none-passes, then-passes, choice-passes, with-passes, then-through, if-through, put-through, changed-through}
 use Rattle.reach.proofs.Distributor.{sources-through}
 
@@ -54,7 +56,7 @@ module _ {shape : Shape} {wrap : List ℕ → List ℕ} (around : Around shape w
     abbrev depth : ℕ
     depth = depthAt shape v s
 
-    deep : depth ≤ 255
+    deep : depth ≤ stackCapacity
     deep = h .deep
 
     depth-alike : depthAt shape v (wrap s) ≡ depth
@@ -71,26 +73,26 @@ module _ {shape : Shape} {wrap : List ℕ → List ℕ} (around : Around shape w
         (λ r k. choice-passes (λ q. eqb (sourcesAt shape v n q) 0) (ap (λ (x : ℕ). eqb x 0) (sources-alike (around .alike r k) v exists n sgi))
         (λ q. none-passes r) (λ q. changed-through around v n (λ q. setPending q true) own r k)))
 
-    pushed-passes : (e : Entry) → depth < 255 → Passes wrap (pushed shape v e) s
+    pushed-passes : (e : Entry) → depth < stackCapacity → Passes wrap (pushed shape v e) s
     unfolding pushed
     pushed-passes e room =
         with-passes (depthAt shape v) (λ d r. withEntry shape v d e (withInterface shape v Depth (d + 1) r)) depth-alike
         (then-through (interface-through Depth (depth + 1)) (put-through around (Stack v depth) (λ r. entryWord e) (exists, room) (omega arith) (λ r k. refl)) s (h .state))
 
-    given-passes : (e : Entry) → depth < 255 → e .intid .0 < shape .limit → Passes wrap (given shape v e) s
+    given-passes : (e : Candidate) → depth < stackCapacity → e .intid .0 < shape .limit → Passes wrap (given shape v e) s
     unfolding given
     given-passes e room below =
         let n : ℕ = e .intid .0 in
-        let push : Passes wrap (pushed shape v e) s = pushed-passes e room in
-        with-passes (sourceOf shape v n) (λ source r. sourceTaken shape v n source (changed shape v n (givenRecord v) (pushed shape v e r))) (source-of-alike same v exists n)
-        (then-passes push (then-through (changed-through around v n (givenRecord v) (there below)) (source-through n (sourceOf shape v n s) (there below)) (pushed shape v e s) (long-room (push .long) (h .state))))
+        let push : Passes wrap (pushed shape v (pushedFor e)) s = pushed-passes (pushedFor e) room in
+        with-passes (sourceOf shape v n) (λ source r. sourceTaken shape v n source (changed shape v n (givenRecord v) (pushed shape v (pushedFor e) r))) (source-of-alike same v exists n)
+        (then-passes push (then-through (changed-through around v n (givenRecord v) (there below)) (source-through n (sourceOf shape v n s) (there below)) (pushed shape v (pushedFor e) s) (long-room (push .long) (h .state))))
 
     taken-passes : (b : Selected) → offer shape v s ≡ b → Passes wrap (λ r. taken shape v r b) s
     unfolding taken
     taken-passes Nothing p = none-passes s
     taken-passes (Best e) p =
-        choice-passes (λ r. ltb (depthAt shape v r) 255) (ap (λ (d : ℕ). ltb d 255) depth-alike)
-        (λ q. given-passes e (ltb-true depth 255 q) (offer-below shape v s e p)) (λ q. none-passes s)
+        choice-passes (λ r. ltb (depthAt shape v r) stackCapacity) (ap (λ (d : ℕ). ltb d stackCapacity) depth-alike)
+        (λ q. given-passes e (ltb-true depth stackCapacity q) (offer-below shape v s e p)) (λ q. none-passes s)
 
     pub acknowledged-passes : Passes wrap (acknowledged shape v) s
     acknowledged-passes = with-passes (offer shape v) (λ b r. taken shape v r b) (offer-alike same v exists deep) (taken-passes (offer shape v s) refl)

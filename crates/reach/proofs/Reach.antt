@@ -10,15 +10,15 @@ use borrow.Author.Tests.{not-true}
 use Rattle.state.specs.declared.layout.Shape.{Shape}
 use Rattle.state.specs.declared.lent.Limited.{Limited}
 use Rattle.state.specs.declared.lent.Limited.the-variants.{Within, Outside}
-use Rattle.state.specs.Layout.{size}
+use Rattle.state.specs.Layout.{size, largestSize}
 use Rattle.state.specs.Lent.{shaped, limited, storedShape, HoldsState}
 use Rattle.state.proofs.Places.{size-bound}
 use Rattle.state.proofs.Tests.{left-true, right-true}
 use Rattle.state.proofs.Validated.{limited-shape, limited-limits, limits-limited}
-use Rattle.history.specs.History.{Call, Setup, isSetup, called, run, handed, answers, noSetup, Accepted}
+use Rattle.history.specs.History.{Call, Setup, Deed, Starts, Acts, deed, isSetup, called, run, handed, answers, noSetup, Accepted}
 use Rattle.history.proofs.Always.{a-fresh-controller}
-use Rattle.history.proofs.Each.{setup-or-other, any-words}
-use Rattle.reach.specs.Reach.{sizeOr, storedExtent, extent, ReachAtMost, SameFront}
+use Rattle.history.proofs.Each.{any-words}
+use Rattle.reach.specs.Reach.{sizeOr, storedExtent, extentOf, extent, ReachAtMost, SameFront}
 use Rattle.reach.proofs.Beside.{head-stays}
 use Rattle.reach.proofs.Extents.{other-extent, call-long}
 use Rattle.reach.proofs.Never.{calls-never-write, calls-never-read}
@@ -83,22 +83,24 @@ module _ (count limit : ℕ) (words : List ℕ) (accepted : Accepted count limit
   words-past-unread r = calls-never-read whole (Setup count limit ∷ cs) words r setup-reach
 
 -- no call reaches past the largest state
-largest : (other : ℕ) → other ≤ 3447 → (count limit : ℕ) (l : Limited) → limited count limit ≡ l → sizeOr other l ≤ 3447
+largest : (other : ℕ) → other ≤ largestSize → (count limit : ℕ) (l : Limited) → limited count limit ≡ l → sizeOr other l ≤ largestSize
 largest other h count limit Outside p = h
 largest other h count limit (Within shape) p = size-bound shape (limited-limits count limit shape p)
 
-pub extent-bound : (c : Call) (s : List ℕ) → extent c s ≤ 3447
-extent-bound c s =
-    setup-or-other (λ d. extent d s ≤ 3447) (λ count limit. largest 0 (omega arith) count limit (limited count limit) refl)
-    (λ d other. rw (other-extent d s other) (largest 2 (omega arith) (getD s 0 0) (getD s 1 0) (storedShape s) refl)) c
+pub extent-bound : (c : Call) (s : List ℕ) → extent c s ≤ largestSize
+extent-bound c s = go (deed c)
+  where
+    go : (d : Deed) → extentOf d s ≤ largestSize
+    go (Starts count limit) = largest 0 (omega arith) count limit (limited count limit) refl
+    go (Acts a) = largest 2 (omega arith) (getD s 0 0) (getD s 1 0) (storedShape s) refl
 
-pub largest-reach : (cs : List Call) (s : List ℕ) → ReachAtMost 3447 cs s
+pub largest-reach : (cs : List Call) (s : List ℕ) → ReachAtMost largestSize cs s
 largest-reach [] s = tt
 largest-reach (c ∷ cs) s = (extent-bound c s, largest-reach cs (called c s .state))
 
 -- so of any history at all, setups in it or not
-pub largest-unwritten : (cs : List Call) (s : List ℕ) → drop 3447 (run cs s) ≡ drop 3447 s
-largest-unwritten cs s = calls-never-write 3447 cs s (largest-reach cs s)
+pub largest-unwritten : (cs : List Call) (s : List ℕ) → drop largestSize (run cs s) ≡ drop largestSize s
+largest-unwritten cs s = calls-never-write largestSize cs s (largest-reach cs s)
 
-pub largest-unread : (cs : List Call) (s r : List ℕ) → take 3447 s ≡ take 3447 r → SameFront 3447 cs s r
-largest-unread cs s r = calls-never-read 3447 cs s r (largest-reach cs s)
+pub largest-unread : (cs : List Call) (s r : List ℕ) → take largestSize s ≡ take largestSize r → SameFront largestSize cs s r
+largest-unread cs s r = calls-never-read largestSize cs s r (largest-reach cs s)

@@ -16,27 +16,25 @@ use Rattle.word.proofs.Gathered.{gathered-same}
 use Rattle.state.specs.declared.layout.Shape.{Shape}
 use Rattle.state.specs.declared.layout.InterfaceValue.{InterfaceValue}
 use Rattle.state.specs.declared.layout.InterfaceValue.the-variants.{Control, PriorityMask, Depth}
-use Rattle.state.specs.Layout.{Slot, DistributorControl, Interface, Sources, Stack}
-use Rattle.state.specs.Words.{recordSlot, RecordThere, recordAt, sourcesAt, kept, interfaceAt, enabledAt}
+use Rattle.state.specs.Layout.{DistributorControl, Interface, Sources, Stack, stackCapacity}
+use Rattle.state.specs.Words.{recordSlot, RecordThere, recordAt, sourcesAt, kept, interfaceAt, keptDistributorControl, distributorControlAt, enableBit, enabledAt}
 use Rattle.state.proofs.Accessors.{record-exists}
-use Rattle.state.proofs.SlotKinds.{kindOf, record-kind}
+use Rattle.state.proofs.Places.{Inner}
+use Rattle.state.proofs.SlotKinds.{record-kind}
 use Rattle.state.proofs.Steps.{Agree}
 use Rattle.bits.specs.Bits.{fieldBits, perWord, readField, readNumber, readBits}
 use Rattle.targets.specs.Targets.{ownByte, readTarget}
 use Rattle.distributor.specs.Bytes.{readPriority, readByte, readBytes, ByteThere}
+use Rattle.select.specs.declared.Candidate.{Candidate}
 use Rattle.select.specs.declared.Selected.{Selected}
 use Rattle.select.specs.declared.Selected.the-variants.{Best, Nothing}
-use Rattle.select.specs.Select.{eligible, candidate, better, bestBelow, bothOn, selectedNumber, highestPending}
+use Rattle.select.specs.Select.{eligible, candidate, better, bestBelow, best, bothOn, selectedNumber, highestPending}
 use Rattle.service.specs.Service.{depthAt, stackAt, runningOf, running, isNewest, Sound}
 use Rattle.service.proofs.Stacks.{stack-same}
 use Rattle.acknowledge.specs.declared.Read.the-variants.{Value, StackFull}
-use Rattle.acknowledge.specs.Acknowledge.{preempting, offer, lowestSource, sourceOf, answered, acknowledge}
+use Rattle.acknowledge.specs.Acknowledge.{preempts, preempting, offer, lowestSource, sourceOf, answered, acknowledge}
 use Rattle.end.specs.End.{servedHere, retired, deactivates}
 use Rattle.wake.specs.Wake.{isSpurious, givesNumber, woken, wakeSet}
-
--- the slots of neither the count nor the limit
-abbrev pub Inner : Slot → Type 0
-Inner t = 2 ≤ kindOf t
 
 pub record-inner : (v n : ℕ) → Inner (recordSlot v n)
 record-inner v n = rw (record-kind v n) (omega arith)
@@ -50,8 +48,11 @@ module _ {shape : Shape} {r s : List ℕ} (same : Agree shape Inner r s) where
   pub record-alike : (v n : ℕ) → RecordThere shape v n → recordAt shape v n r ≡ recordAt shape v n s
   record-alike v n there = ap recordOf (same .agree (recordSlot v n) (record-exists shape v n there) (record-inner v n))
 
+  pub control-alike : distributorControlAt shape r ≡ distributorControlAt shape s
+  control-alike = ap keptDistributorControl (same .agree DistributorControl tt (omega arith))
+
   pub enabled-alike : enabledAt shape r ≡ enabledAt shape s
-  enabled-alike = ap (λ (w : ℕ). eqb (w % 2) 1) (same .agree DistributorControl tt (omega arith))
+  enabled-alike = ap enableBit control-alike
 
   -- the Distributor's registers
   pub bits-alike : (register : BitRegister) (v first : ℕ) → (first < 32 → v < shape .count) → readBits shape register v first r ≡ readBits shape register v first s
@@ -103,7 +104,7 @@ module _ {shape : Shape} {r s : List ℕ} (same : Agree shape Inner r s) where
         λ i. better (eligible (interface-alike PriorityMask i) v n (own i)) (record { intid = record { 0 = n }; priority = own i .priority }) (best-alike n (omega arith) i)
 
     both-alike : bothOn shape v r ≡ bothOn shape v s
-    both-alike = λ i. enabled-alike i && eqb (interface-alike Control i % 2) 1
+    both-alike = λ i. enabled-alike i && enableBit (interface-alike Control i)
 
     pub highest-alike : highestPending shape v r ≡ highestPending shape v s
     unfolding highestPending
@@ -126,7 +127,7 @@ module _ {shape : Shape} {r s : List ℕ} (same : Agree shape Inner r s) where
     retired-alike n = ap (λ (b : Bool). cond b n 1023) (tested-alike n (servedHere v))
 
     -- and of its stack, which holds what it can
-    module _ (deep : depthAt shape v s ≤ 255) where
+    module _ (deep : depthAt shape v s ≤ stackCapacity) where
       pub stack-alike : stackAt shape v r ≡ stackAt shape v s
       stack-alike = stack-same shape v s r deep (same .agree (Interface v Depth) exists (omega arith)) (λ i h. same .agree (Stack v i) (exists, h) (omega arith))
 
@@ -136,14 +137,23 @@ module _ {shape : Shape} {r s : List ℕ} (same : Agree shape Inner r s) where
       pub deactivates-alike : (n : ℕ) → deactivates shape v n r ≡ deactivates shape v n s
       deactivates-alike n = λ i. isNewest n (stack-alike i) && not (eqb (interface-alike Control i / 512 % 2) 1)
 
+      preempts-alike : (c : Candidate) → preempts shape v r c ≡ preempts shape v s c
+      preempts-alike c = λ i. ltb (c .priority .0) (running-alike i)
+
+      preempting-alike : (b : Selected) → preempting shape v r b ≡ preempting shape v s b
+      preempting-alike Nothing = refl
+      preempting-alike (Best c) = ap (λ (q : Bool). cond q (Best c) Nothing) (preempts-alike c)
+
       pub offer-alike : offer shape v r ≡ offer shape v s
       unfolding offer
-      offer-alike = λ i. cond (both-alike i) (preempting (running-alike i) (best-alike (shape .limit) (omega arith) i)) Nothing
+      offer-alike =
+          (λ i. cond (both-alike i) (preempting shape v r (best-alike (shape .limit) (omega arith) i)) Nothing)
+          ∙ ap (λ (b : Selected). cond (bothOn shape v s) b Nothing) (preempting-alike (best shape v s))
 
       answered-alike : (b : Selected) → answered shape v r b ≡ answered shape v s b
       unfolding answered
       answered-alike Nothing = refl
-      answered-alike (Best e) = λ i. cond (ltb (interface-alike Depth i) 255) (Value (e .intid .0 + 1024 * source-of-alike (e .intid .0) i)) StackFull
+      answered-alike (Best e) = λ i. cond (ltb (interface-alike Depth i) stackCapacity) (Value (e .intid .0 + 1024 * source-of-alike (e .intid .0) i)) StackFull
 
       pub acknowledge-alike : acknowledge shape v r ≡ acknowledge shape v s
       acknowledge-alike = answered-alike (offer shape v r) ∙ ap (answered shape v s) offer-alike

@@ -8,7 +8,7 @@ use Rattle.state.specs.declared.lent.Limited.{Limited}
 use Rattle.state.specs.declared.lent.Limited.the-variants.{Within, Outside}
 use Rattle.state.specs.Layout.{size}
 use Rattle.state.specs.Lent.{limited, storedShape}
-use Rattle.history.specs.History.{Call, Setup, ReadDistributor, WriteDistributor, ReadCpuInterface, WriteCpuInterface, SetLevel, Pulse, called, run, answers}
+use Rattle.history.specs.History.{Call, Deed, Starts, Acts, deed, called, run, answers}
 
 -- the words of a state of this count and limit; `other` where they are out of range
 abbrev pub sizeOr : ℕ → Limited → ℕ
@@ -20,14 +20,12 @@ abbrev pub storedExtent : List ℕ → ℕ
 storedExtent s = sizeOr 2 (storedShape s)
 
 -- a setup has to do with the state that it is to start, and every other call with the state that is lent
+abbrev pub extentOf : Deed → List ℕ → ℕ
+extentOf (Starts count limit) s = sizeOr 0 (limited count limit)
+extentOf (Acts a) s = storedExtent s
+
 abbrev pub extent : Call → List ℕ → ℕ
-extent (Setup count limit) s = sizeOr 0 (limited count limit)
-extent (ReadDistributor v offset width) s = storedExtent s
-extent (WriteDistributor v offset width value) s = storedExtent s
-extent (ReadCpuInterface v offset width) s = storedExtent s
-extent (WriteCpuInterface v offset width value) s = storedExtent s
-extent (SetLevel v n asserted) s = storedExtent s
-extent (Pulse v n) s = storedExtent s
+extent c s = extentOf (deed c) s
 
 -- none of these calls, one after another, reaches past n words
 abbrev pub ReachAtMost : ℕ → List Call → List ℕ → Type 0

@@ -4,23 +4,21 @@ use mathlib.Core.Bool.{Bool, true, false, true≢false, false≢true}
 use mathlib.Core.List.{List, [], _∷_, _++_, append-assoc, append-nil}
 use mathlib.Core.Option.{Option, none, some}
 use Prim.Native.Nat.{ℕ, zero, suc}
-use lib.Dec.{leb}
+use lib.Dec.{eqb, leb}
 use lib.ListN.{length}
 use borrow.Author.Tests.{eqb-true}
 use Rattle.state.specs.declared.lent.Lent.the-variants.{Broken}
 use Rattle.state.specs.Layout.{size}
 use Rattle.state.specs.Lent.{inLimits, shaped, limited, validated}
+use Rattle.state.proofs.Tests.{left-true, right-true}
 use Rattle.controller.specs.Start.{setup}
-use Rattle.distributor_frame.specs.DistributorFrame.{readV2Distributor, writeV2Distributor}
-use Rattle.cpu_interface_frame.specs.CpuInterfaceFrame.{readV2CpuInterface, writeV2CpuInterface}
-use Rattle.input.specs.Input.{deviceInput}
 use Rattle.script.specs.Line.{requestOf}
 use Rattle.runner.specs.Runner.{lineAnswer, textFirst, linesPrinted, startWords}
-use Rattle.history.specs.History.{Call, Setup, ReadDistributor, WriteDistributor, ReadCpuInterface, WriteCpuInterface, SetLevel, Pulse, run}
-use Rattle.history.proofs.Always.{demand-three}
-use Rattle.history.proofs.Each.{setup-or-other}
+use Rattle.history.specs.History.{Call, Setup, Deed, Starts, Acts, deed, startsAnew, isSetup, called, run}
+use Rattle.history.proofs.Always.{a-started-controller, every-history, stored-controls}
+use Rattle.history.proofs.Each.{setup-or-other, broken-call}
 use Rattle.script_history.specs.ScriptHistory.{callOf, withCall, callsOf, byCall}
-use Rattle.script_history.specs.Before.{isAccepted, noneAccepted, textBefore, textsBefore}
+use Rattle.script_history.specs.Before.{isAccepted, noneAccepted, refusalBefore, textBefore, textsBefore}
 use Rattle.script_history.proofs.Scripts.{a-line-is-a-call, a-script-is-a-history, OrderlyWords}
 
 -- a refused `n`, whatever the words: it prints 4 or 5, and they stay
@@ -37,15 +35,14 @@ a-refused-setup count limit s refuses = go (inLimits count limit) (leb (size (sh
 
 -- in words that are no state, a line that is no accepted `n`
 call-before : (o : Option Call) (s : List ℕ) → validated s ≡ Broken → isAccepted o s ≡ false → byCall o s ≡ record { text = textBefore o; state = s }
-unfolding readV2Distributor writeV2Distributor readV2CpuInterface writeV2CpuInterface deviceInput
 call-before none s e h = refl
-call-before (some (Setup count limit)) s e h = a-refused-setup count limit s h
-call-before (some (ReadDistributor v offset width)) s e h = rw e
-call-before (some (WriteDistributor v offset width value)) s e h = rw e
-call-before (some (ReadCpuInterface v offset width)) s e h = rw e
-call-before (some (WriteCpuInterface v offset width value)) s e h = rw e
-call-before (some (SetLevel v n asserted)) s e h = rw e
-call-before (some (Pulse v n)) s e h = rw e
+call-before (some c) s e h =
+    setup-or-other (λ d. isAccepted (some d) s ≡ false → byCall (some d) s ≡ record { text = textBefore (some d); state = s })
+    (λ count limit. a-refused-setup count limit s) (λ d other q. rw (broken-call d other s e .0, by-6 (deed d) other)) c h
+  where
+    by-6 : (d : Deed) → startsAnew d ≡ false → refusalBefore d ≡ 6
+    by-6 (Starts count limit) p = absurd (true≢false p)
+    by-6 (Acts a) p = refl
 
 line-before : (line s : List ℕ) → validated s ≡ Broken → isAccepted (callOf (requestOf line)) s ≡ false
     → lineAnswer line s ≡ record { text = textBefore (callOf (requestOf line)); state = s }
@@ -71,11 +68,12 @@ lines-before (line ∷ lines) rest s e h = go (isAccepted (callOf (requestOf lin
 
 -- and once an `n` is accepted, demand 3 holds after whatever lines follow
 accepted-orderly : (o : Option Call) (s : List ℕ) (calls : List Call) → isAccepted o s ≡ true → OrderlyWords (run (withCall o calls) s)
+unfolding run
 accepted-orderly none s calls h = absurd (false≢true h)
 accepted-orderly (some c) s calls h =
-    setup-or-other (λ d. isAccepted (some d) s ≡ true → OrderlyWords (run (d ∷ calls) s))
-    (λ count limit a. demand-three count limit s (eqb-true (setup count limit s .refusal) 0 a) calls)
-    (λ d other a. absurd (false≢true (simp other at a))) c h
+    let accepted : called c s .refusal ≡ 0 = eqb-true (called c s .refusal) 0 (right-true (isSetup c) (eqb (called c s .refusal) 0) h) in
+    let started = a-started-controller c s (left-true (isSetup c) (eqb (called c s .refusal) 0) h) accepted in
+    stored-controls (run (c ∷ calls) s) (every-history calls (called c s .state) started) .lawful .orderly
 
 lines-after : (lines : List (List ℕ)) (s : List ℕ) → validated s ≡ Broken → noneAccepted lines s ≡ false → OrderlyWords (linesPrinted lines s .state)
 unfolding noneAccepted linesPrinted callsOf

@@ -9,7 +9,7 @@ use Rattle.state.specs.Lent.{inLimits}
 use Rattle.script.specs.Line.{requestOf}
 use Rattle.script.specs.Text.{answerText, unknownText}
 use Rattle.runner.specs.Runner.{lineAnswer}
-use Rattle.history.specs.History.{Call, Setup, ReadDistributor, WriteDistributor, ReadCpuInterface, WriteCpuInterface, SetLevel, Pulse, isSetup, called}
+use Rattle.history.specs.History.{Call, Deed, Starts, Acts, deed, isSetup, called}
 use Rattle.script_history.specs.ScriptHistory.{callOf}
 
 -- a call that is an accepted `n`
@@ -23,18 +23,13 @@ noneAccepted [] s = true
 noneAccepted (line ∷ lines) s = not (isAccepted (callOf (requestOf line)) s) && noneAccepted lines (lineAnswer line s .state)
 
 -- what such lines print: a refusal, or `?`
-abbrev pub refusalBefore : Call → ℕ
-refusalBefore (Setup count limit) = cond (inLimits count limit) 5 4
-refusalBefore (ReadDistributor v offset width) = 6
-refusalBefore (WriteDistributor v offset width value) = 6
-refusalBefore (ReadCpuInterface v offset width) = 6
-refusalBefore (WriteCpuInterface v offset width value) = 6
-refusalBefore (SetLevel v n asserted) = 6
-refusalBefore (Pulse v n) = 6
+abbrev pub refusalBefore : Deed → ℕ
+refusalBefore (Starts count limit) = cond (inLimits count limit) 5 4
+refusalBefore (Acts a) = 6
 
 abbrev pub textBefore : Option Call → List ℕ
 textBefore none = unknownText
-textBefore (some c) = answerText (refusalBefore c) 0 0 1023
+textBefore (some c) = answerText (refusalBefore (deed c)) 0 0 1023
 
 unfoldable pub textsBefore : List (List ℕ) → List ℕ
 textsBefore [] = []

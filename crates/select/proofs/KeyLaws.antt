@@ -10,16 +10,17 @@ use lib.ListN.{length, getD}
 use borrow.Author.Tests.{lt-ltb, le-ltb, ltb-true, ltb-false}
 use Rattle.state.specs.declared.layout.Shape.{Shape}
 use Rattle.state.specs.declared.layout.InterfaceValue.the-variants.{PriorityMask}
-use Rattle.state.specs.declared.words.Entry.{Entry}
 use Rattle.state.specs.Layout.{place, spiStart, Limits}
 use Rattle.state.specs.Words.{wordAt, recordSlot, recordAt, interfaceAt}
 use Rattle.state.proofs.Accessors.{record-run}
 use Rattle.state.proofs.Tests.{left-true, right-true}
 use Rattle.word.specs.Word.{recordOf}
+use Rattle.select.specs.declared.WordTest.{WordTest}
+use Rattle.select.specs.declared.Candidate.{Candidate}
 use Rattle.select.specs.declared.Selected.{Selected}
 use Rattle.select.specs.declared.Selected.the-variants.{Best, Nothing}
-use Rattle.select.specs.Select.{offered, candidate, entryFor, wins, better, bestBelow, best, Looked}
-use Rattle.select.specs.Keys.{readyWord, neededOfSpi, keyOf, selectedBy, least, withWord, leastKey}
+use Rattle.select.specs.Select.{offered, candidate, candidateFor, wins, better, bestBelow, best, Looked}
+use Rattle.select.specs.Keys.{privateBits, spiBits, testOf, readyWord, keyOf, selectedBy, least, withWord, leastKey}
 use Rattle.select.proofs.Ready.{passes, ready-private, ready-spi}
 
 -- a selection among the numbers below n, of a priority below the mask
@@ -71,63 +72,63 @@ module _ (shape : Shape) (v : ℕ) (s : List ℕ) where
   bounded : (n : ℕ) → Bounded mask n (bestBelow shape v s n)
   unfolding bestBelow
   bounded zero = tt
-  bounded (suc n) = go (candidate shape v s n && wins (entryFor shape v s n) (bestBelow shape v s n)) refl (bounded n)
+  bounded (suc n) = go (candidate shape v s n && wins (candidateFor shape v s n) (bestBelow shape v s n)) refl (bounded n)
     where
-      go : (b : Bool) → (candidate shape v s n && wins (entryFor shape v s n) (bestBelow shape v s n)) ≡ b → Bounded mask n (bestBelow shape v s n)
-          → Bounded mask (suc n) (cond b (Best (entryFor shape v s n)) (bestBelow shape v s n))
+      go : (b : Bool) → (candidate shape v s n && wins (candidateFor shape v s n) (bestBelow shape v s n)) ≡ b → Bounded mask n (bestBelow shape v s n)
+          → Bounded mask (suc n) (cond b (Best (candidateFor shape v s n)) (bestBelow shape v s n))
       go true p h =
-          let chosen = sym (candidate-is n) ∙ left-true (candidate shape v s n) (wins (entryFor shape v s n) (bestBelow shape v s n)) p in
+          let chosen = sym (candidate-is n) ∙ left-true (candidate shape v s n) (wins (candidateFor shape v s n) (bestBelow shape v s n)) p in
           (omega arith, ltb-true (priority n) mask (right-true (ready-at n) (ltb (priority n) mask) chosen))
       go false p h = one-more mask n (bestBelow shape v s n) h
 
   -- one number more
   key-step : (n : ℕ) (fit : Bool) (x : Selected) → n < 1020 → Bounded mask n x
-      → cond fit (least (1024 * priority n + n) (keyOf (1024 * mask) x)) (keyOf (1024 * mask) x) ≡ keyOf (1024 * mask) (better (fit && ltb (priority n) mask) (entryFor shape v s n) x)
+      → cond fit (least (1024 * priority n + n) (keyOf (1024 * mask) x)) (keyOf (1024 * mask) x) ≡ keyOf (1024 * mask) (better (fit && ltb (priority n) mask) (candidateFor shape v s n) x)
   key-step n false x h w = refl
   key-step n true x h w = go (ltb q mask) refl x w
     where
       q : ℕ
       q = priority n
 
-      tie : (e : Entry) (b : Bool) → e .intid .0 < n → ltb q (e .priority .0) ≡ b
-          → least (1024 * q + n) (1024 * e .priority .0 + e .intid .0) ≡ keyOf (1024 * mask) (cond b (Best (entryFor shape v s n)) (Best e))
+      tie : (e : Candidate) (b : Bool) → e .intid .0 < n → ltb q (e .priority .0) ≡ b
+          → least (1024 * q + n) (1024 * e .priority .0 + e .intid .0) ≡ keyOf (1024 * mask) (cond b (Best (candidateFor shape v s n)) (Best e))
       tie e true i p = let a = ltb-true q (e .priority .0) p in simp (lt-ltb (1024 * q + n) (1024 * e .priority .0 + e .intid .0) (omega (arith, a)))
       tie e false i p = let a = ltb-false q (e .priority .0) p in simp (le-ltb (1024 * q + n) (1024 * e .priority .0 + e .intid .0) (omega (arith, a, i)))
 
-      go : (b : Bool) → ltb q mask ≡ b → (x : Selected) → Bounded mask n x → least (1024 * q + n) (keyOf (1024 * mask) x) ≡ keyOf (1024 * mask) (better b (entryFor shape v s n) x)
+      go : (b : Bool) → ltb q mask ≡ b → (x : Selected) → Bounded mask n x → least (1024 * q + n) (keyOf (1024 * mask) x) ≡ keyOf (1024 * mask) (better b (candidateFor shape v s n) x)
       go false p x w = let a = ltb-false q mask p in past-mask mask n (1024 * q + n) x (omega arith) w (omega (arith, a))
       go true p Nothing w = let a = ltb-true q mask p in simp (lt-ltb (1024 * q + n) (1024 * mask) (omega (arith, a)))
       go true p (Best e) w = tie e (ltb q (e .priority .0)) (w .0) refl
 
-  one-more-best : (n : ℕ) → bestBelow shape v s (suc n) ≡ better (candidate shape v s n) (entryFor shape v s n) (bestBelow shape v s n)
+  one-more-best : (n : ℕ) → bestBelow shape v s (suc n) ≡ better (candidate shape v s n) (candidateFor shape v s n) (bestBelow shape v s n)
   unfolding bestBelow
   one-more-best n = refl
 
-  module _ (needed offset : ℕ) where
-    -- the word at `offset + n` is the record of the number n, and the bits `needed` are those that it takes
+  module _ (test : WordTest) (offset : ℕ) where
+    -- the word at `offset + n` is the record of the number n, and the test is what it takes
     abbrev Tested : ℕ → Type 0
-    Tested n = (place shape (recordSlot v n) ≡ offset + n) × ((w : ℕ) → readyWord needed w ≡ passes (offered v n (recordOf w)) (recordOf w))
+    Tested n = (place shape (recordSlot v n) ≡ offset + n) × ((w : ℕ) → readyWord test w ≡ passes (offered v n (recordOf w)) (recordOf w))
 
     -- the word at its place
-    at-place : (n k so-far : ℕ) → place shape (recordSlot v n) ≡ k → withWord needed n (getD s k 0) so-far ≡ withWord needed n (wordAt shape (recordSlot v n) s) so-far
-    at-place n k so-far p = ap (λ (x : ℕ). withWord needed n (getD s x 0) so-far) (sym p)
+    at-place : (n k so-far : ℕ) → place shape (recordSlot v n) ≡ k → withWord test n (getD s k 0) so-far ≡ withWord test n (wordAt shape (recordSlot v n) s) so-far
+    at-place n k so-far p = ap (λ (x : ℕ). withWord test n (getD s x 0) so-far) (sym p)
 
-    record-step : (n : ℕ) → n < 1020 → Tested n → withWord needed n (getD s (offset + n) 0) (best-key n) ≡ best-key (suc n)
+    record-step : (n : ℕ) → n < 1020 → Tested n → withWord test n (getD s (offset + n) 0) (best-key n) ≡ best-key (suc n)
     unfolding recordOf
     record-step n h t =
         let x = bestBelow shape v s n in
         at-place n (offset + n) (best-key n) (t .0)
         ∙ rw (t .1 (wordAt shape (recordSlot v n) s)) (key-step n (ready-at n) x h (bounded n))
-        ∙ ap (λ (b : Bool). keyOf (1024 * mask) (better b (entryFor shape v s n) x)) (sym (candidate-is n))
+        ∙ ap (λ (b : Bool). keyOf (1024 * mask) (better b (candidateFor shape v s n) x)) (sym (candidate-is n))
         ∙ ap (keyOf (1024 * mask)) (sym (one-more-best n))
 
     -- a run of records, after the numbers before it
     pub key-run : (first i : ℕ) → first + i ≤ 1020 → ((j : ℕ) → j < i → Tested (first + j))
-        → leastKey needed offset first s (best-key first) i ≡ best-key (first + i)
+        → leastKey test offset first s (best-key first) i ≡ best-key (first + i)
     unfolding leastKey
     key-run first zero h tested = rw add-zero
     key-run first (suc i) h tested =
-        ap (withWord needed (first + i) (getD s (offset + (first + i)) 0)) (key-run first i (omega arith) (λ j b. tested j (omega arith)))
+        ap (withWord test (first + i) (getD s (offset + (first + i)) 0)) (key-run first i (omega arith) (λ j b. tested j (omega arith)))
         ∙ record-step (first + i) (omega arith) (tested i (omega arith))
         ∙ ap best-key (sym (add-suc first i))
 
@@ -139,21 +140,21 @@ module _ (shape : Shape) (v : ℕ) (s : List ℕ) where
   spis-inside h = omega arith
 
   -- the private records, and after them the SPIs
-  pub key-private : leastKey 3 (place shape (recordSlot v 0)) 0 s (1024 * mask) 32 ≡ best-key 32
+  pub key-private : leastKey (testOf privateBits) (place shape (recordSlot v 0)) 0 s (1024 * mask) 32 ≡ best-key 32
   unfolding bestBelow
-  key-private = key-run 3 (place shape (recordSlot v 0)) 0 32 (omega arith) tested
+  key-private = key-run (testOf privateBits) (place shape (recordSlot v 0)) 0 32 (omega arith) tested
     where
-      tested : (j : ℕ) → j < 32 → Tested 3 (place shape (recordSlot v 0)) (0 + j)
+      tested : (j : ℕ) → j < 32 → Tested (testOf privateBits) (place shape (recordSlot v 0)) (0 + j)
       tested j b = (
         record-run shape v 0 j (λ p. omega arith) ∙ ap (λ (k : ℕ). place shape (recordSlot v 0) + k) (sym (zero-add j)),
         λ w. rw (lt-ltb (0 + j) 32 (omega arith)) (ready-private w),
       )
 
-  pub key-spis : Limits shape → v < 8 → leastKey (neededOfSpi v) (spiStart shape - 32) 32 s (best-key 32) (shape .limit - 32) ≡ best-key (shape .limit)
+  pub key-spis : Limits shape → v < 8 → leastKey (testOf (spiBits v)) (spiStart shape - 32) 32 s (best-key 32) (shape .limit - 32) ≡ best-key (shape .limit)
   unfolding recordSlot
   key-spis l few =
       let all : 32 + (shape .limit - 32) ≡ shape .limit = omega arith in
-      key-run (neededOfSpi v) (spiStart shape - 32) 32 (shape .limit - 32) (omega arith) tested
+      key-run (testOf (spiBits v)) (spiStart shape - 32) 32 (shape .limit - 32) (omega arith) tested
       ∙ ap best-key all
     where
       not-lt-self : 32 < 32 → ⊥
@@ -162,7 +163,7 @@ module _ (shape : Shape) (v : ℕ) (s : List ℕ) where
       spi-first : (j : ℕ) → place shape (recordSlot v 32) + j ≡ spiStart shape - 32 + (32 + j)
       spi-first j = omega arith
 
-      tested : (j : ℕ) → j < shape .limit - 32 → Tested (neededOfSpi v) (spiStart shape - 32) (32 + j)
+      tested : (j : ℕ) → j < shape .limit - 32 → Tested (testOf (spiBits v)) (spiStart shape - 32) (32 + j)
       tested j b = (
         record-run shape v 32 j (λ p. absurd (not-lt-self p)) ∙ spi-first j,
         λ w. rw (le-ltb (32 + j) 32 (omega arith)) (ready-spi v w few),

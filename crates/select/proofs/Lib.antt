@@ -1,4 +1,5 @@
 -- Laws that belong to no one function.
 pub mod Meaning
+pub mod WordTests
 pub mod Ready
 pub mod KeyLaws

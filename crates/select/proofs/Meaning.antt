@@ -1,22 +1,34 @@
 -- What the recursion behind `best` means: what it gives is the best of all candidates, and it gives none exactly if there is no candidate.
 -- Assumes nothing.
 use mathlib.Core.Path.{_≡_, refl, sym, _∙_, subst}
-use mathlib.Core.Bool.{Bool, true, false, cond, true≢false}
+use mathlib.Core.Bool.{Bool, true, false, not, cond, _&&_, true≢false}
 use mathlib.Core.List.{List}
 use Prim.Native.Nat.{ℕ, zero, suc, _<_}
 use native.Mathlib.Nat.{not-suc-le-zero}
 use native.Mathlib.Omega.{arith}
 use lib.Dec.{ltb}
-use borrow.Author.Tests.{ltb-true, ltb-false}
+use borrow.Author.Tests.{ltb-true, ltb-false, not-true}
+use Rattle.interrupt.specs.Record.{isReady}
 use Rattle.word.proofs.Cases.{last-or}
 use Rattle.state.specs.declared.layout.Shape.{Shape}
-use Rattle.state.specs.declared.words.Entry.{Entry}
-use Rattle.state.specs.Words.{recordAt}
+use Rattle.state.specs.declared.layout.InterfaceValue.the-variants.{PriorityMask}
+use Rattle.state.specs.Words.{recordAt, interfaceAt}
+use Rattle.state.proofs.Tests.{left-true, right-true}
+use Rattle.select.specs.declared.Candidate.{Candidate}
 use Rattle.select.specs.declared.Selected.{Selected}
 use Rattle.select.specs.declared.Selected.the-variants.{Best, Nothing}
-use Rattle.select.specs.Select.{candidate, entryFor, better, bestBelow, best, IsBest}
+use Rattle.select.specs.Select.{offered, candidate, candidateFor, better, bestBelow, best, IsBest}
 
 module _ (shape : Shape) (v : ℕ) (s : List ℕ) where
+  pub candidate-ready : (n : ℕ) → candidate shape v s n ≡ true → isReady (recordAt shape v n s) ≡ true
+  unfolding candidate
+  candidate-ready n c =
+      let r = recordAt shape v n s in
+      right-true (offered v n r) (isReady r) (left-true (offered v n r && isReady r) (ltb (r .priority .0) (interfaceAt shape v PriorityMask s)) c)
+
+  pub candidate-idle : (n : ℕ) → candidate shape v s n ≡ true → recordAt shape v n s .active ≡ false
+  candidate-idle n c = let r = recordAt shape v n s in not-true (r .active) (right-true (r .enabled && r .pending) (not (r .active)) (candidate-ready n c))
+
   -- what a selection says of the numbers below n
   abbrev Means : ℕ → Selected → Type 0
   Means n Nothing = (m : ℕ) → m < n → candidate shape v s m ≡ false
@@ -33,7 +45,7 @@ module _ (shape : Shape) (v : ℕ) (s : List ℕ) where
     first = λ m h pos same. last-or m n h (λ p. absurd (true≢false (sym pos ∙ rw p neg))) (λ below. is .first m below pos same);
   }
 
-  taken : (n : ℕ) (b : Selected) → candidate shape v s n ≡ true → Means n b → Means (suc n) (better true (entryFor shape v s n) b)
+  taken : (n : ℕ) (b : Selected) → candidate shape v s n ≡ true → Means n b → Means (suc n) (better true (candidateFor shape v s n) b)
   taken n Nothing pos none = record {
     below = omega arith;
     chosen = pos;
@@ -46,7 +58,7 @@ module _ (shape : Shape) (v : ℕ) (s : List ℕ) where
       q : ℕ
       q = recordAt shape v n s .priority .0
 
-      go : (b : Bool) → ltb q (e .priority .0) ≡ b → Means (suc n) (cond b (Best (entryFor shape v s n)) (Best e))
+      go : (b : Bool) → ltb q (e .priority .0) ≡ b → Means (suc n) (cond b (Best (candidateFor shape v s n)) (Best e))
       go true p = let ahead : q < e .priority .0 = ltb-true q (e .priority .0) p in record {
         below = omega arith;
         chosen = pos;
@@ -67,7 +79,7 @@ module _ (shape : Shape) (v : ℕ) (s : List ℕ) where
   means zero = λ m h. absurd (not-suc-le-zero h)
   means (suc n) = go (candidate shape v s n) refl (means n)
     where
-      go : (b : Bool) → candidate shape v s n ≡ b → Means n (bestBelow shape v s n) → Means (suc n) (better b (entryFor shape v s n) (bestBelow shape v s n))
+      go : (b : Bool) → candidate shape v s n ≡ b → Means n (bestBelow shape v s n) → Means (suc n) (better b (candidateFor shape v s n) (bestBelow shape v s n))
       go true pos is = taken n (bestBelow shape v s n) pos is
       go false neg is = passed n (bestBelow shape v s n) neg is
 
@@ -75,7 +87,7 @@ module _ (shape : Shape) (v : ℕ) (s : List ℕ) where
   meant b p = subst (λ (x : Selected). Means (shape .limit) x) p (means (shape .limit))
 
   -- the best is a candidate, and neg candidate is before it
-  pub best-is : (e : Entry) → best shape v s ≡ Best e → IsBest shape v s (shape .limit) e
+  pub best-is : (e : Candidate) → best shape v s ≡ Best e → IsBest shape v s (shape .limit) e
   best-is e p = meant (Best e) p
 
   -- none is given exactly if there is neg candidate
@@ -90,7 +102,7 @@ module _ (shape : Shape) (v : ℕ) (s : List ℕ) where
       go (Best e) p = let is = best-is e p in absurd (true≢false (sym (is .chosen) ∙ none (e .intid .0) (is .below)))
 
   -- and there is only one
-  pub is-best : (e : Entry) → IsBest shape v s (shape .limit) e → best shape v s ≡ Best e
+  pub is-best : (e : Candidate) → IsBest shape v s (shape .limit) e → best shape v s ≡ Best e
   is-best e is = go (best shape v s) refl
     where
       go : (b : Selected) → best shape v s ≡ b → b ≡ Best e

@@ -1,18 +1,19 @@
 -- Which interrupt a vCPU is offered: document 01, "CPU interface places", Candidate and Best; IHI 0048, 3.3, "Interrupt prioritization".
 -- Left out on purpose: the running priority, which only an acknowledge looks at.
-use mathlib.Core.Bool.{Bool, true, not, cond, _&&_, _||_}
+use mathlib.Core.Bool.{Bool, true, cond, _&&_, _||_}
 use mathlib.Core.List.{List}
 use mathlib.Core.Path.{_≡_}
 use Prim.Native.Nat.{ℕ, zero, suc, _/_, _%_, _^_, _≤_, _<_}
 use lib.Dec.{eqb, ltb}
 use Rattle.interrupt.specs.Types.{isPrivateId}
+use Rattle.interrupt.specs.Record.{isReady}
 use Rattle.interrupt.specs.declared.record.InterruptRecord.{InterruptRecord}
 use Rattle.word.specs.Word.{maskByte}
 use Rattle.state.specs.declared.layout.Shape.{Shape}
 use Rattle.state.specs.declared.layout.InterfaceValue.the-variants.{Control, PriorityMask}
-use Rattle.state.specs.declared.words.Entry.{Entry}
 use Rattle.state.specs.Layout.{Room}
-use Rattle.state.specs.Words.{recordAt, interfaceAt, enabledAt}
+use Rattle.state.specs.Words.{recordAt, interfaceAt, enableBit, enabledAt}
+use Rattle.select.specs.declared.Candidate.{Candidate}
 use Rattle.select.specs.declared.Selected.{Selected}
 use Rattle.select.specs.declared.Selected.the-variants.{Best, Nothing}
 
@@ -22,39 +23,39 @@ offered v n r = isPrivateId (record { 0 = n }) || eqb (maskByte (r .«cpu_target
 
 -- ".. that are enabled, pending, not active, with priority below PMR", which is `mask`
 abbrev pub eligible : ℕ → ℕ → ℕ → InterruptRecord → Bool
-eligible mask v n r = offered v n r && r .enabled && r .pending && not (r .active) && ltb (r .priority .0) mask
+eligible mask v n r = offered v n r && isReady r && ltb (r .priority .0) mask
 
 unfoldable pub candidate : Shape → ℕ → List ℕ → ℕ → Bool
 candidate shape v s n = eligible (interfaceAt shape v PriorityMask s) v n (recordAt shape v n s)
 
 -- a number with its priority
-abbrev pub entryFor : Shape → ℕ → List ℕ → ℕ → Entry
-entryFor shape v s n = record { intid = record { 0 = n }; priority = recordAt shape v n s .priority }
+abbrev pub candidateFor : Shape → ℕ → List ℕ → ℕ → Candidate
+candidateFor shape v s n = record { intid = record { 0 = n }; priority = recordAt shape v n s .priority }
 
 -- "smallest priority, then smallest number": a later number wins only with a strictly smaller priority
-abbrev pub wins : Entry → Selected → Bool
-wins e Nothing = true
-wins e (Best b) = ltb (e .priority .0) (b .priority .0)
+abbrev pub wins : Candidate → Selected → Bool
+wins c Nothing = true
+wins c (Best b) = ltb (c .priority .0) (b .priority .0)
 
-abbrev pub better : Bool → Entry → Selected → Selected
-better fit e b = cond (fit && wins e b) (Best e) b
+abbrev pub better : Bool → Candidate → Selected → Selected
+better fit c b = cond (fit && wins c b) (Best c) b
 
 -- of the numbers below n
 unfoldable pub bestBelow : Shape → ℕ → List ℕ → ℕ → Selected
 bestBelow shape v s zero = Nothing
-bestBelow shape v s (suc n) = better (candidate shape v s n) (entryFor shape v s n) (bestBelow shape v s n)
+bestBelow shape v s (suc n) = better (candidate shape v s n) (candidateFor shape v s n) (bestBelow shape v s n)
 
 abbrev pub best : Shape → ℕ → List ℕ → Selected
 best shape v s = bestBelow shape v s (shape .limit)
 
 -- Distributor and interface are on: bit 0 of each CTLR
 abbrev pub bothOn : Shape → ℕ → List ℕ → Bool
-bothOn shape v s = enabledAt shape s && eqb (interfaceAt shape v Control s % 2) 1
+bothOn shape v s = enabledAt shape s && enableBit (interfaceAt shape v Control s)
 
 -- "HPPIR gives the best, without an SGI's source; 1023 if there is none or Distributor or interface is off"
 abbrev pub selectedNumber : Selected → ℕ
 selectedNumber Nothing = 1023
-selectedNumber (Best e) = e .intid .0
+selectedNumber (Best c) = c .intid .0
 
 unfoldable pub highestPending : Shape → ℕ → List ℕ → ℕ
 highestPending shape v s = cond (bothOn shape v s) (selectedNumber (best shape v s)) 1023
@@ -65,9 +66,9 @@ pub record Looked (shape : Shape) (v : ℕ) (s : List ℕ) : Type 0 where
   pub exists : v < shape .count
 
 -- what it is to be the best of the numbers below n: a candidate, and "smallest priority, then smallest number"
-pub record IsBest (shape : Shape) (v : ℕ) (s : List ℕ) (n : ℕ) (e : Entry) : Type 0 where
-  pub below : e .intid .0 < n
-  pub chosen : candidate shape v s (e .intid .0) ≡ true
-  pub priority : e .priority .0 ≡ recordAt shape v (e .intid .0) s .priority .0
-  pub smallest : (m : ℕ) → m < n → candidate shape v s m ≡ true → e .priority .0 ≤ recordAt shape v m s .priority .0
-  pub first : (m : ℕ) → m < n → candidate shape v s m ≡ true → recordAt shape v m s .priority .0 ≡ e .priority .0 → e .intid .0 ≤ m
+pub record IsBest (shape : Shape) (v : ℕ) (s : List ℕ) (n : ℕ) (c : Candidate) : Type 0 where
+  pub below : c .intid .0 < n
+  pub chosen : candidate shape v s (c .intid .0) ≡ true
+  pub priority : c .priority .0 ≡ recordAt shape v (c .intid .0) s .priority .0
+  pub smallest : (m : ℕ) → m < n → candidate shape v s m ≡ true → c .priority .0 ≤ recordAt shape v m s .priority .0
+  pub first : (m : ℕ) → m < n → candidate shape v s m ≡ true → recordAt shape v m s .priority .0 ≡ c .priority .0 → c .intid .0 ≤ m

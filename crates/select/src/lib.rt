@@ -1,28 +1,34 @@
 // Selection: which interrupt a vCPU is offered. Each record is visited once, where it stands.
 ghost use mathlib.Core.Path.{_≡_};
-ghost use Prim.Native.Nat.{_<_, _-_, _*_, _^_};
+ghost use Prim.Native.Nat.{_<_, _-_, _*_};
 ghost use Rattle.state.specs.declared.layout.InterfaceValue.the-variants.{PriorityMask};
 ghost use Rattle.state.specs.Words.{interfaceAt};
 ghost use Rattle.select.specs.Select.{best, bothOn, selectedNumber, highestPending, Looked};
-ghost use Rattle.select.specs.Keys.{selectedBy, neededOfSpi, readyWord, least, withWord, leastKey, KeyRun};
+ghost use Rattle.select.specs.Keys.{privateBits, spiBits, testOf, readyWord, selectedBy, least, withWord, leastKey, KeyRun};
 use interrupt::GicVcpuId;
 use interrupt::IntId;
 use interrupt::Priority;
-use state::Entry;
 use state::InterfaceValue;
 use state::Shape;
 use state::layout::record_place;
 use state::words::distributor_enabled;
 use state::words::interface_value;
 
-// The best candidate, with its priority.
+// An interrupt that a vCPU may be given, with its priority.
+pub struct Candidate {
+    pub intid: IntId,
+    pub priority: Priority,
+}
+
 pub enum Selected {
-    Best(Entry),
+    Best(Candidate),
     Nothing,
 }
 
 // Bits of a record's word, which the loop tests as it stands: several flags by one comparison.
-const ENABLED_AND_PENDING: u32 = 3;
+const ENABLED: u32 = 1;
+
+const PENDING: u32 = 2;
 
 const ACTIVE: u32 = 4;
 
@@ -30,20 +36,33 @@ const MASK_SET: u32 = 128;
 
 const FIRST_TARGET: u32 = 0x1_0000;
 
-// What the word of an SPI must have; a private record's needs ENABLED_AND_PENDING alone.
-fn needed_of_spi(vcpu: GicVcpuId) -> u32
-    requires { ⌜ vcpu .0 < 8 ⌝ }
-    ensures { λ r. ⌜ r ≡ neededOfSpi (vcpu .0) ⌝ }
-{
-    ENABLED_AND_PENDING + MASK_SET + (FIRST_TARGET << vcpu.0)
+// The bits that a test cares for, and how they are wanted.
+struct WordTest {
+    care: u32,
+    wanted: u32,
 }
 
-fn is_ready(word: u32, needed: u32) -> bool
-    requires { ⌜ needed < 2 ^ 24 ⌝ }
-    ensures { λ r. ⌜ r ≡ readyWord needed word ⌝ }
+fn private_test() -> WordTest
+    ensures { λ r. ⌜ r ≡ testOf privateBits ⌝ }
 {
-    // All bits that are needed, and not the one of an active record.
-    (word & (needed + ACTIVE)) == needed
+    let wanted = ENABLED + PENDING;
+    let care = wanted + ACTIVE;
+    WordTest { care, wanted }
+}
+
+fn spi_test(vcpu: GicVcpuId) -> WordTest
+    requires { ⌜ vcpu .0 < 8 ⌝ }
+    ensures { λ r. ⌜ r ≡ testOf (spiBits (vcpu .0)) ⌝ }
+{
+    let wanted = ENABLED + PENDING + MASK_SET + (FIRST_TARGET << vcpu.0);
+    let care = wanted + ACTIVE;
+    WordTest { care, wanted }
+}
+
+fn is_ready(word: u32, test: WordTest) -> bool
+    ensures { λ r. ⌜ r ≡ readyWord test word ⌝ }
+{
+    (word & test.care) == test.wanted
 }
 
 fn least(a: u32, b: u32) -> u32
@@ -53,11 +72,11 @@ fn least(a: u32, b: u32) -> u32
 }
 
 // A key is the priority with the number below it: the least is the smallest priority's, then the smallest number's.
-fn with_record(word: u32, intid: IntId, needed: u32, so_far: u32) -> u32
-    requires { ⌜ (needed < 2 ^ 24) × (intid .0 < 1020) ⌝ }
-    ensures { λ r. ⌜ r ≡ withWord needed (intid .0) word «so_far» ⌝ }
+fn with_record(word: u32, intid: IntId, test: WordTest, so_far: u32) -> u32
+    requires { ⌜ intid .0 < 1020 ⌝ }
+    ensures { λ r. ⌜ r ≡ withWord test (intid .0) word «so_far» ⌝ }
 {
-    if is_ready(word, needed) {
+    if is_ready(word, test) {
         least(1024 * (word / 256 % 256) + intid.0, so_far)
     } else {
         so_far
@@ -65,14 +84,14 @@ fn with_record(word: u32, intid: IntId, needed: u32, so_far: u32) -> u32
 }
 
 // Of the numbers from `first` to below `end`, and `start`; the record of the number n is at `offset + n`.
-fn least_key(words: &[u32], offset: usize, first: u32, end: u32, needed: u32, start: u32) -> u32
-    requires { ⌜ KeyRun needed offset first end (now words) ⌝ }
-    ensures { λ r. ⌜ r ≡ leastKey needed offset first (now (words .entry)) start (end - first) ⌝ }
+fn least_key(words: &[u32], offset: usize, first: u32, end: u32, test: WordTest, start: u32) -> u32
+    requires { ⌜ KeyRun offset first end (now words) ⌝ }
+    ensures { λ r. ⌜ r ≡ leastKey test offset first (now (words .entry)) start (end - first) ⌝ }
 {
     let mut key = start;
     let mut n = first;
     while n < end {
-        key = with_record(words[offset + n as usize], IntId(n), needed, key);
+        key = with_record(words[offset + n as usize], IntId(n), test, key);
         n += 1;
     }
     key
@@ -84,7 +103,7 @@ fn of_key(key: u32, none: u32) -> Selected
     ensures { λ r. ⌜ r ≡ selectedBy none key ⌝ }
 {
     if key < none {
-        Selected::Best(Entry {
+        Selected::Best(Candidate {
             intid: IntId(key % 1024),
             priority: Priority::new((key / 1024) as u8),
         })
@@ -109,10 +128,9 @@ pub fn highest_pending(words: &[u32], shape: Shape, vcpu: GicVcpuId) -> Selected
     // A key is below it exactly if its priority is below the mask.
     let none = 1024 * mask.0 as u32;
     let own = record_place(shape, vcpu, IntId(0));
-    let private = least_key(words, own, 0, 32, ENABLED_AND_PENDING, none);
+    let private = least_key(words, own, 0, 32, private_test(), none);
     let spis = shape.spi_start() - 32;
-    let needed = needed_of_spi(vcpu);
-    let key = least_key(words, spis, 32, shape.limit, needed, private);
+    let key = least_key(words, spis, 32, shape.limit, spi_test(vcpu), private);
     of_key(key, none)
 }
 
@@ -129,7 +147,7 @@ impl Selected {
         ensures { λ r. ⌜ r .0 ≡ selectedNumber self ⌝ }
     {
         match self {
-            Selected::Best(entry) => entry.intid,
+            Selected::Best(candidate) => candidate.intid,
             Selected::Nothing => IntId::SPURIOUS,
         }
     }

@@ -8,7 +8,7 @@ use native.Mathlib.Omega.{arith}
 use Rattle.state.specs.declared.layout.Shape.{Shape}
 use Rattle.state.specs.declared.layout.InterfaceValue.the-variants.{Depth}
 use Rattle.state.specs.declared.words.Entry.{Entry}
-use Rattle.state.specs.Layout.{Slot, Interface, Stack, Exists, Room}
+use Rattle.state.specs.Layout.{Slot, Interface, Stack, Exists, Room, stackCapacity}
 use Rattle.state.specs.Words.{wordAt, entryOf, entryWord, entryAt, withInterface, withoutEntry}
 use Rattle.state.proofs.Accessors.{put-room, put-same, put-other, entry-same}
 use Rattle.state.proofs.SlotKinds.{kinds-apart}
@@ -40,12 +40,12 @@ unfolding stackTo
 same-to shape v s r zero same = refl
 same-to shape v s r (suc n) same = λ j. entryOf (same n (omega arith) j) ∷ same-to shape v s r n (λ i b. same i (omega arith)) j
 
-pub stack-same : (shape : Shape) (v : ℕ) (s r : List ℕ) → depthAt shape v s ≤ 255 → wordAt shape (Interface v Depth) r ≡ wordAt shape (Interface v Depth) s
-    → ((i : ℕ) → i < 255 → wordAt shape (Stack v i) r ≡ wordAt shape (Stack v i) s) → stackAt shape v r ≡ stackAt shape v s
+pub stack-same : (shape : Shape) (v : ℕ) (s r : List ℕ) → depthAt shape v s ≤ stackCapacity → wordAt shape (Interface v Depth) r ≡ wordAt shape (Interface v Depth) s
+    → ((i : ℕ) → i < stackCapacity → wordAt shape (Stack v i) r ≡ wordAt shape (Stack v i) s) → stackAt shape v r ≡ stackAt shape v s
 stack-same shape v s r deep depth same = ap (stackTo shape v r) depth ∙ same-to shape v s r (depthAt shape v s) (λ i b. same i (omega arith))
 
 -- a push
-module _ (shape : Shape) (v : ℕ) (e : Entry) (s : List ℕ) (h : Served shape v s) (room : depthAt shape v s < 255) where
+module _ (shape : Shape) (v : ℕ) (e : Entry) (s : List ℕ) (h : Served shape v s) (room : depthAt shape v s < stackCapacity) where
   pub pushed-room : Room shape (pushed shape v e s)
   unfolding pushed
   pushed-room = put-room shape (withInterface shape v Depth (depthAt shape v s + 1) s) (Stack v (depthAt shape v s)) (entryWord e) (put-room shape s (Interface v Depth) (depthAt shape v s + 1) (h .state))
@@ -60,7 +60,7 @@ module _ (shape : Shape) (v : ℕ) (e : Entry) (s : List ℕ) (h : Served shape 
   unfolding pushed
   pushed-depth =
       put-other shape (withInterface shape v Depth (depthAt shape v s + 1) s) (Interface v Depth) (Stack v (depthAt shape v s)) (entryWord e) (h .exists) (h .exists, room)
-      (kinds-apart (Interface v Depth) (Stack v (depthAt shape v s)) (λ p. omega arith))
+      (kinds-apart (Interface v Depth) (Stack v (depthAt shape v s)) refl)
       ∙ put-same shape s (Interface v Depth) (depthAt shape v s + 1) (h .state) (h .exists)
 
   pub pushed-stack : e .intid .0 < 1024 → e .priority .0 < 256 → stackAt shape v (pushed shape v e s) ≡ e ∷ stackAt shape v s
@@ -73,7 +73,7 @@ module _ (shape : Shape) (v : ℕ) (e : Entry) (s : List ℕ) (h : Served shape 
     where
       rest : stackTo shape v (pushed shape v e s) (depthAt shape v s) ≡ stackAt shape v s
       rest = same-to shape v s (pushed shape v e s) (depthAt shape v s)
-          (λ i b. pushed-others (Stack v i) (h .exists, omega arith) (kinds-apart (Stack v i) (Interface v Depth) (λ p. omega arith)) (λ p. let q : i ≡ depthAt shape v s = cc in omega arith))
+          (λ i b. pushed-others (Stack v i) (h .exists, omega arith) (kinds-apart (Stack v i) (Interface v Depth) refl) (λ p. let q : i ≡ depthAt shape v s = cc in omega arith))
 
 -- a pop
 below : List Entry → List Entry
@@ -89,7 +89,7 @@ module _ (shape : Shape) (v : ℕ) (s : List ℕ) (h : Served shape v s) (some :
   unfolding popped
   popped-others t x no-depth no-entry =
       let d : ℕ = depthAt shape v s - 1 in
-      let deep : depthAt shape v s ≤ 255 = h .deep in
+      let deep : depthAt shape v s ≤ stackCapacity = h .deep in
       put-other shape (withoutEntry shape v d s) t (Interface v Depth) d x (h .exists) no-depth
       ∙ put-other shape s t (Stack v d) 0 x (h .exists, omega arith) no-entry
 
@@ -100,15 +100,15 @@ module _ (shape : Shape) (v : ℕ) (s : List ℕ) (h : Served shape v s) (some :
       put-same shape (withoutEntry shape v d s) (Interface v Depth) d (put-room shape s (Stack v d) 0 (h .state)) (h .exists)
 
   pub popped-served : Served shape v (popped shape v s)
-  popped-served = let deep : depthAt shape v s ≤ 255 = h .deep in record { state = popped-room; exists = h .exists; deep = rw popped-depth (omega arith) }
+  popped-served = let deep : depthAt shape v s ≤ stackCapacity = h .deep in record { state = popped-room; exists = h .exists; deep = rw popped-depth (omega arith) }
 
   popped-rest : stackAt shape v (popped shape v s) ≡ stackTo shape v s (depthAt shape v s - 1)
   popped-rest =
       let d : ℕ = depthAt shape v s - 1 in
-      let deep : depthAt shape v s ≤ 255 = h .deep in
+      let deep : depthAt shape v s ≤ stackCapacity = h .deep in
       ap (stackTo shape v (popped shape v s)) popped-depth
       ∙ same-to shape v s (popped shape v s) d
-      (λ i b. popped-others (Stack v i) (h .exists, omega arith) (kinds-apart (Stack v i) (Interface v Depth) (λ p. omega arith)) (λ p. let q : i ≡ d = cc in omega arith))
+      (λ i b. popped-others (Stack v i) (h .exists, omega arith) (kinds-apart (Stack v i) (Interface v Depth) refl) (λ p. let q : i ≡ d = cc in omega arith))
 
   pub popped-stack : (e : Entry) (es : List Entry) → stackAt shape v s ≡ e ∷ es → stackAt shape v (popped shape v s) ≡ es
   unfolding below

@@ -5,10 +5,11 @@ use mathlib.Core.Bool.{Bool, false, cond}
 use mathlib.Core.List.{List, [], _∷_}
 use Prim.Native.Nat.{ℕ, zero, suc, _+_, _-_, _≤_, _<_}
 use lib.Dec.{eqb}
+use Rattle.interrupt.specs.Types.{idlePriority}
 use Rattle.state.specs.declared.layout.Shape.{Shape}
 use Rattle.state.specs.declared.layout.InterfaceValue.the-variants.{Depth}
 use Rattle.state.specs.declared.words.Entry.{Entry}
-use Rattle.state.specs.Layout.{Room}
+use Rattle.state.specs.Layout.{Room, stackCapacity}
 use Rattle.state.specs.Words.{interfaceAt, withInterface, entryAt, withEntry, withoutEntry}
 
 abbrev pub depthAt : Shape → ℕ → List ℕ → ℕ
@@ -23,7 +24,7 @@ abbrev pub stackAt : Shape → ℕ → List ℕ → List Entry
 stackAt shape v s = stackTo shape v s (depthAt shape v s)
 
 abbrev pub runningOf : List Entry → ℕ
-runningOf [] = 255
+runningOf [] = idlePriority
 runningOf (e ∷ es) = e .priority .0
 
 abbrev pub running : Shape → ℕ → List ℕ → ℕ
@@ -47,9 +48,9 @@ dropped shape v n s = cond (isNewest n (stackAt shape v s)) (popped shape v s) s
 pub record Served (shape : Shape) (v : ℕ) (s : List ℕ) : Type 0 where
   pub state : Room shape s
   pub exists : v < shape .count
-  pub deep : depthAt shape v s ≤ 255
+  pub deep : depthAt shape v s ≤ stackCapacity
 
 -- the same of every vCPU: what refusal 6 makes sure of
 pub record Sound (shape : Shape) (s : List ℕ) : Type 0 where
   pub state : Room shape s
-  pub depths : (v : ℕ) → v < shape .count → depthAt shape v s ≤ 255
+  pub depths : (v : ℕ) → v < shape .count → depthAt shape v s ≤ stackCapacity

@@ -1,6 +1,7 @@
 // What a vCPU has under service: a stack of numbers and priorities, the newest running.
 ghost use mathlib.Core.Path.{_≡_};
 ghost use Prim.Native.Nat.{_<_};
+ghost use Rattle.state.specs.Layout.{stackCapacity};
 ghost use Rattle.service.specs.Service.{depthAt, stackAt, running, isNewest, pushed, popped, dropped, Served};
 use interrupt::GicVcpuId;
 use interrupt::IntId;
@@ -34,7 +35,7 @@ pub fn running_priority(words: &[u32], shape: Shape, vcpu: GicVcpuId) -> Priorit
 
 // The depth first, so that no entry ever stands past it.
 pub fn push_v2_active(words: &mut [u32], shape: Shape, vcpu: GicVcpuId, entry: Entry)
-    requires { ⌜ (Served shape (vcpu .0) (now words)) × (depthAt shape (vcpu .0) (now words) < 255) ⌝ }
+    requires { ⌜ (Served shape (vcpu .0) (now words)) × (depthAt shape (vcpu .0) (now words) < stackCapacity) ⌝ }
     ensures { λ r. ⌜ now (words .exit) ≡ pushed shape (vcpu .0) entry (now (words .entry)) ⌝ }
 {
     let held = depth(words, shape, vcpu);

@@ -13,6 +13,7 @@ use lib.Dec.{eqb}
 use lib.Pow.{pow-lt, pow-pos}
 use borrow.Author.Tests.{ne-eqb}
 use Rattle.interrupt.specs.Record.{setPending}
+use Rattle.interrupt.specs.Types.{everyVcpu}
 use Rattle.interrupt.specs.declared.record.InterruptRecord.{InterruptRecord}
 use Rattle.word.specs.Word.{recordOf, wordOf, InRange}
 use Rattle.word.proofs.RecordWord.{decoded-in-range}
@@ -21,7 +22,7 @@ use Rattle.state.specs.Layout.{Slot, Sources, Exists, Limits, Room}
 use Rattle.state.specs.Words.{wordAt, recordSlot, recordAt, changed, sourcesAt, withSources}
 use Rattle.state.proofs.Accessors.{put-room, put-other, record-exists, record-same, sources-same, record-no-sources}
 use Rattle.state.proofs.Numbers.{Of, one-vcpu, then-local, if-local, unless-local, put-local, changed-local, sources-local}
-use Rattle.state.proofs.Steps.{Agree, Local, steps-room, steps-own, steps-others}
+use Rattle.state.proofs.Steps.{slots, Agree, Local, steps-room, steps-own, steps-others}
 use Rattle.sgi.specs.declared.SgiTarget.{SgiTarget}
 use Rattle.sgi.specs.Sgi.{pendBySources, mergedSources, writeSources, pendSgi, includes, sentTo, sendSgi}
 
@@ -57,16 +58,16 @@ module _ (shape : Shape) (source n : ℕ) (target : SgiTarget) (s : List ℕ) (h
   pub sgi-sent : (v : ℕ) → v < shape .count → Agree shape (Of v n) (sendSgi shape source n target s) (sentTo shape target source n v s)
   unfolding sendSgi
   sgi-sent v b =
-      steps-own shape (λ u. Of u n) (sentTo shape target source n) (λ i j t a c. one-vcpu i j n t (omega arith) a c) (shape .count) s sent h v b
+      steps-own (slots shape) (λ u. Of u n) (sentTo shape target source n) (λ i j t a c. one-vcpu i j n t (omega arith) a c) (shape .count) s sent h v b
 
   -- .. and nothing else changes
   pub sgi-others : (t : Slot) → Exists shape t → ((v : ℕ) → v < shape .count → Of v n t → ⊥) → wordAt shape t (sendSgi shape source n target s) ≡ wordAt shape t s
   unfolding sendSgi
-  sgi-others t e away = steps-others shape (λ u. Of u n) (sentTo shape target source n) (shape .count) s sent t e away
+  sgi-others t e away = steps-others (slots shape) (λ u. Of u n) (sentTo shape target source n) (shape .count) s sent h t e away
 
   pub sgi-room : Room shape (sendSgi shape source n target s)
   unfolding sendSgi
-  sgi-room = steps-room shape (λ u. Of u n) (sentTo shape target source n) (shape .count) s sent h
+  sgi-room = steps-room (slots shape) (λ u. Of u n) (sentTo shape target source n) (shape .count) s sent h
 
 -- a set that a source has joined is not empty
 pub joined-some : (x source : ℕ) → bitOr x (2 ^ source) ≡ 0 → ⊥
@@ -75,7 +76,7 @@ joined-some x source e = omega (arith, e, or-add-and x (2 ^ source), and-le-l x 
 -- sources merged are a byte
 pub merged-fits : (on : Bool) (x byte : ℕ) → x < 256 → byte < 256 → mergedSources on x byte < 256
 merged-fits true x byte a b = or-lt 8 x byte a b
-merged-fits false x byte a b = lt-of-le-of-lt (and-le-l x (255 - byte)) a
+merged-fits false x byte a b = lt-of-le-of-lt (and-le-l x (everyVcpu - byte)) a
 
 -- a source set and then its record: both are as written
 module _ (shape : Shape) (v n : ℕ) (s : List ℕ) (h : Room shape s) (e : Exists shape (Sources v n)) where

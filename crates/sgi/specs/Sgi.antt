@@ -5,6 +5,7 @@ use Prim.Native.Nat.{ℕ, _-_, _/_, _%_, _^_}
 use lib.Bits.{bitAnd, bitOr}
 use lib.Dec.{eqb}
 use Rattle.interrupt.specs.Record.{setPending}
+use Rattle.interrupt.specs.Types.{everyVcpu}
 use Rattle.state.specs.declared.layout.Shape.{Shape}
 use Rattle.state.specs.Loop.{upTo}
 use Rattle.state.specs.Words.{changed, sourcesAt, withSources}
@@ -21,7 +22,7 @@ sourced shape v n sources s = pendBySources shape v n (withSources shape v n sou
 -- "writing 1 bits clears or sets them, also for sources that do not exist": CPENDSGIR clears, SPENDSGIR sets
 abbrev pub mergedSources : Bool → ℕ → ℕ → ℕ
 mergedSources true sources byte = bitOr sources byte
-mergedSources false sources byte = bitAnd sources (255 - byte)
+mergedSources false sources byte = bitAnd sources (everyVcpu - byte)
 
 -- "a zero byte changes nothing"
 unfoldable pub writeSources : Shape → ℕ → ℕ → Bool → ℕ → List ℕ → List ℕ

@@ -6,6 +6,7 @@ use mathlib.Core.Logic.{_⊎_, inl, inr}
 use Prim.Native.Nat.{ℕ}
 use native.Mathlib.Omega.{arith}
 use Rattle.register.specs.declared.frame.AccessWidth.the-variants.{Dword}
+use Rattle.state.specs.Layout.{size}
 use Rattle.state.specs.Lent.{shaped}
 use Rattle.state.proofs.Tests.{left-true, right-true}
 use Rattle.answer.specs.Answer.{Outcome, gave}
@@ -29,7 +30,7 @@ promised f m (d ∷ cs) c s p =
 
 -- one vCPU and no SPI, in words that were 0 and are just enough
 abbrev words : List ℕ
-words = zeros 310
+words = zeros (size (shaped 1 32))
 
 abbrev history : List Call → History
 history cs = record { count = 1; limit = 32; lent = words; calls = cs }

@@ -1,14 +1,16 @@
 -- There is a controller that keeps the promises, and each kind has members, so the theorems shut something out: the fourth has one that does
 -- give a first interrupt. Assumes nothing.
 use mathlib.Core.Path.{_≡_, refl, ap}
-use mathlib.Core.Bool.{true, false≢true}
+use mathlib.Core.Bool.{true, false, not, true≢false}
 use mathlib.Core.List.{List, [], _∷_}
 use mathlib.Core.Logic.{inl}
 use Prim.Native.Nat.{ℕ}
 use native.Mathlib.Omega.{arith}
+use borrow.Author.Tests.{not-true}
 use Rattle.register.specs.declared.frame.Refusal.the-variants.{BrokenState}
+use Rattle.state.proofs.Tests.{left-true, right-true}
 use Rattle.answer.specs.Answer.{Outcome, refused, gave}
-use Rattle.history.specs.History.{Call, Setup, ReadDistributor, WriteDistributor, ReadCpuInterface, WriteCpuInterface, SetLevel, Pulse, called, noSetup, iarRead}
+use Rattle.history.specs.History.{Call, Looks, ReadsRegister, WritesRegister, WritesPlace, Signals, Deed, Starts, Acts, deed, startsAnew, isSetup, called, noSetup, iarRead}
 use Rattle.shut_out.specs.ShutOut.{Behaviour, KeepsPromises, behaved, wordsAfter, Frame, Access, readCall, writeCall, Refuser, ReadsNothing, IgnoresWrites, gaveNumber, OneShot}
 
 pub one-meets : KeepsPromises called
@@ -36,25 +38,30 @@ abbrev acknowledges : List ℕ → Outcome
 acknowledges [] = gave 1023 []
 acknowledges (x ∷ s) = gave 5 []
 
+abbrev does : Deed → List ℕ → Outcome
+does (Starts count limit) s = gave 0 (0 ∷ [])
+does (Acts (Looks by)) s = gave 0 s
+does (Acts (ReadsRegister v a)) s = acknowledges s
+does (Acts (WritesRegister v a value)) s = gave 0 s
+does (Acts (WritesPlace v a width value)) s = gave 0 s
+does (Acts (Signals v n signal)) s = gave 0 s
+
 abbrev once : Behaviour
-once (Setup count limit) s = gave 0 (0 ∷ [])
-once (ReadDistributor v offset width) s = gave 0 s
-once (WriteDistributor v offset width value) s = gave 0 s
-once (ReadCpuInterface v offset width) s = acknowledges s
-once (WriteCpuInterface v offset width value) s = gave 0 s
-once (SetLevel v n asserted) s = gave 0 s
-once (Pulse v n) s = gave 0 s
+once c s = does (deed c) s
+
+leaves-empty : (d : Deed) → startsAnew d ≡ false → does d [] .state ≡ []
+leaves-empty (Starts count limit) p = absurd (true≢false p)
+leaves-empty (Acts (Looks by)) p = refl
+leaves-empty (Acts (ReadsRegister v a)) p = refl
+leaves-empty (Acts (WritesRegister v a value)) p = refl
+leaves-empty (Acts (WritesPlace v a width value)) p = refl
+leaves-empty (Acts (Signals v n signal)) p = refl
 
 stays-empty : (cs : List Call) → noSetup cs ≡ true → behaved once cs [] ≡ []
 unfolding behaved
 stays-empty [] p = refl
-stays-empty (Setup count limit ∷ cs) p = absurd (false≢true p)
-stays-empty (ReadDistributor v offset width ∷ cs) p = stays-empty cs p
-stays-empty (WriteDistributor v offset width value ∷ cs) p = stays-empty cs p
-stays-empty (ReadCpuInterface v offset width ∷ cs) p = stays-empty cs p
-stays-empty (WriteCpuInterface v offset width value ∷ cs) p = stays-empty cs p
-stays-empty (SetLevel v n asserted ∷ cs) p = stays-empty cs p
-stays-empty (Pulse v n ∷ cs) p = stays-empty cs p
+stays-empty (c ∷ cs) p =
+    rw (leaves-empty (deed c) (not-true (isSetup c) (left-true (not (isSetup c)) (noSetup cs) p))) (stays-empty cs (right-true (not (isSetup c)) (noSetup cs) p))
 
 emptied : (s : List ℕ) → acknowledges s .state ≡ []
 emptied [] = refl

@@ -9,26 +9,17 @@ use Prim.Native.Nat.{ℕ, _^_}
 use lib.Dec.{eqb, ltb}
 use Rattle.register.specs.declared.frame.AccessWidth.{AccessWidth}
 use Rattle.answer.specs.Answer.{Outcome}
-use Rattle.history.specs.History.{Call, Setup, ReadDistributor, WriteDistributor, ReadCpuInterface, WriteCpuInterface, SetLevel, Pulse, isSetup, called, noSetup, iarRead}
+use Rattle.history.specs.History.{Call, Setup, ReadDistributor, WriteDistributor, ReadCpuInterface, WriteCpuInterface, numbers, isSetup, called, noSetup, iarRead}
 
 -- some controller: what it does with a call and lent words
 abbrev pub Behaviour : Type 0
 Behaviour = Call → List ℕ → Outcome
 
--- a promise speaks of what the types of its call admit: numbers of 64 bits, words of 32
-abbrev pub numbers : Call → List ℕ
-numbers (Setup count limit) = count ∷ limit ∷ []
-numbers (ReadDistributor v offset width) = v ∷ offset ∷ []
-numbers (WriteDistributor v offset width value) = v ∷ offset ∷ value ∷ []
-numbers (ReadCpuInterface v offset width) = v ∷ offset ∷ []
-numbers (WriteCpuInterface v offset width value) = v ∷ offset ∷ value ∷ []
-numbers (SetLevel v n asserted) = v ∷ n ∷ []
-numbers (Pulse v n) = v ∷ n ∷ []
-
 abbrev pub allBelow : ℕ → List ℕ → Bool
 allBelow bound [] = true
 allBelow bound (x ∷ xs) = ltb x bound && allBelow bound xs
 
+-- a promise speaks of what the types of its call admit: numbers of 64 bits, words of 32
 abbrev pub admitted : Call → List ℕ → Bool
 admitted c s = allBelow (2 ^ 64) (numbers c) && allBelow (2 ^ 32) s
 

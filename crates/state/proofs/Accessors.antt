@@ -6,32 +6,24 @@ use mathlib.Core.List.{List}
 use Prim.Native.Nat.{ℕ, _+_, _/_, _%_, _≤_, _<_}
 use native.Mathlib.Omega.{arith}
 use native.Mathlib.Nat.{mod-eq-of-lt}
-use lib.Dec.{eqb, ltb}
+use lib.Dec.{ltb}
 use lib.ListN.{length, drop, length-set}
 use lib.Seq.{getD-set-same, getD-set-other, set-set, set-comm, drop-set-lt}
-use borrow.Author.Tests.{lt-ltb, le-ltb, ltb-true, ltb-false}
+use borrow.Author.Tests.{lt-ltb, le-ltb, ltb-true, ltb-false, eq-eqb, ne-eqb}
 use Rattle.interrupt.specs.declared.record.InterruptRecord.{InterruptRecord}
 use Rattle.word.specs.Word.{bitOf, wordOf, InRange}
 use Rattle.word.proofs.Cases.{same-or}
 use Rattle.word.proofs.RecordWord.{decode-encode}
 use Rattle.state.specs.declared.layout.Shape.{Shape}
 use Rattle.state.specs.declared.layout.InterfaceValue.{InterfaceValue}
-use Rattle.state.specs.declared.layout.InterfaceValue.the-variants.{Control, PriorityMask, BinaryPoint, Depth}
 use Rattle.state.specs.declared.words.Entry.{Entry}
-use Rattle.state.specs.Layout.{Slot, Count, Limit, DistributorControl, Interface, Sources, Private, Spi, Stack, size, place, Exists, Limits, Room}
-use Rattle.state.specs.Words.{wordAt, put, recordSlot, RecordThere, recordAt, withRecord, sourcesAt, withSources, kept, interfaceAt, withInterface, enabledAt, withEnabledAt, entryOf, entryWord, entryAt, withEntry, CanonicalWord}
-use Rattle.state.proofs.Places.{place-inside, place-apart}
+use Rattle.state.specs.Layout.{Slot, DistributorControl, Interface, Sources, Private, Spi, Stack, size, place, Exists, Limits, Room, numberOf}
+use Rattle.state.specs.Words.{wordAt, put, recordSlot, RecordThere, recordAt, withRecord, sourcesAt, withSources, kept, interfaceAt, withInterface, keptDistributorControl, distributorControlAt, withDistributorControl, enableBit, entryOf, entryWord, entryAt, withEntry, CanonicalWord}
+use Rattle.state.proofs.Places.{kept-kept, place-inside, place-apart}
 
--- what is kept of what is kept
-pub kept-kept : (k : InterfaceValue) (x : ℕ) → kept k (kept k x) ≡ kept k x
-kept-kept Control x = omega arith
-kept-kept PriorityMask x = omega arith
-kept-kept BinaryPoint x = omega arith
-kept-kept Depth x = refl
-
-bit-back : (b : Bool) → eqb (bitOf b % 2) 1 ≡ b
-bit-back true = refl
-bit-back false = refl
+-- of the Distributor's CTLR that is the enable bit
+pub control-bit : (x : ℕ) → keptDistributorControl x ≡ bitOf (enableBit x)
+control-bit x = same-or (x % 2) 1 (λ e. simp (eq-eqb (x % 2) 1 e) e) (λ d. let off : x % 2 ≡ 0 = omega (arith, d) in simp (ne-eqb (x % 2) 1 d) off)
 
 entry-back : (e : Entry) → e .intid .0 < 1024 → e .priority .0 < 256 → entryOf (entryWord e) ≡ e
 entry-back e a b =
@@ -82,7 +74,7 @@ module _ (shape : Shape) (s : List ℕ) where
       (λ p. subst (λ (x : Slot). CanonicalWord x (wordAt shape x (put shape u w s))) (sym p) (rw (put-same u w h eu) cw))
       (λ apart. rw (put-other t u w et eu apart) (all t et))
 
-  -- a record, a source set, an interface value, the Distributor's enable bit, a stack entry: what was written is read back
+  -- a record, a source set, an interface value, the Distributor's CTLR, a stack entry: what was written is read back
   pub record-same : (v n : ℕ) (r : InterruptRecord) → Room shape s → Exists shape (recordSlot v n) → InRange r
       → recordAt shape v n (withRecord shape v n r s) ≡ r
   record-same v n r h e i = rw (put-same (recordSlot v n) (wordOf r) h e) (decode-encode r i)
@@ -94,8 +86,8 @@ module _ (shape : Shape) (s : List ℕ) where
       → interfaceAt shape v k (withInterface shape v k x s) ≡ kept k x
   interface-same v k x h e = rw (put-same (Interface v k) (kept k x) h e) (kept-kept k x)
 
-  pub enabled-same : (on : Bool) → Room shape s → enabledAt shape (withEnabledAt shape on s) ≡ on
-  enabled-same on h = rw (put-same DistributorControl (bitOf on) h tt) (bit-back on)
+  pub control-same : (x : ℕ) → Room shape s → distributorControlAt shape (withDistributorControl shape x s) ≡ keptDistributorControl x
+  control-same x h = rw (put-same DistributorControl (keptDistributorControl x) h tt) (omega arith)
 
   pub entry-same : (v i : ℕ) (e : Entry) → Room shape s → Exists shape (Stack v i) → e .intid .0 < 1024 → e .priority .0 < 256
       → entryAt shape v i (withEntry shape v i e s) ≡ e
@@ -110,19 +102,8 @@ record-exists shape v n there = go (ltb n 32) refl
     go true e = (there .banked (ltb-true n 32 e), ltb-true n 32 e)
     go false e = (ltb-false n 32 e, there .numbered)
 
--- the number of a record's slot
-numberOf : Slot → ℕ
-numberOf Count = 0
-numberOf Limit = 0
-numberOf DistributorControl = 0
-numberOf (Interface v k) = 0
-numberOf (Sources v n) = 0
-numberOf (Private v n) = n
-numberOf (Spi n) = n
-numberOf (Stack v i) = 0
-
-number-of-record : (v n : ℕ) → numberOf (recordSlot v n) ≡ n
-unfolding recordSlot numberOf
+pub number-of-record : (v n : ℕ) → numberOf (recordSlot v n) ≡ n
+unfolding recordSlot
 number-of-record v n = go (ltb n 32)
   where
     go : (b : Bool) → numberOf (cond b (Private v n) (Spi n)) ≡ n

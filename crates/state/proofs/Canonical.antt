@@ -1,42 +1,37 @@
 -- A state as we write it stays one under every accessor's write; at a stack, as long as past the depth there is only 0. Assumes nothing.
-use mathlib.Core.Path.{_≡_, refl, sym, _∙_, subst}
-use mathlib.Core.Bool.{Bool, true, false, cond}
+use mathlib.Core.Path.{_≡_, refl, sym, ap, _∙_, subst}
+use mathlib.Core.Bool.{Bool, true, false, cond, true≢false}
 use mathlib.Core.List.{List}
-use Prim.Native.Nat.{ℕ, _^_, _≤_, _<_}
+use Prim.Native.Nat.{ℕ, _≤_, _<_}
+use native.Mathlib.Nat.{mod-eq-of-lt}
 use native.Mathlib.Omega.{arith}
 use lib.Dec.{ltb}
 use Rattle.interrupt.specs.declared.record.InterruptRecord.{InterruptRecord}
-use Rattle.word.specs.Word.{bitOf, wordOf, InRange}
-use Rattle.word.proofs.RecordWord.{bit-fits, encoded-canonical}
+use Rattle.word.specs.Word.{wordOf, InRange}
+use Rattle.word.proofs.RecordWord.{decode-encode}
 use Rattle.state.specs.declared.layout.Shape.{Shape}
 use Rattle.state.specs.declared.layout.InterfaceValue.{InterfaceValue}
-use Rattle.state.specs.declared.layout.InterfaceValue.the-variants.{Control, PriorityMask, BinaryPoint, Depth}
+use Rattle.state.specs.declared.layout.InterfaceValue.the-variants.{Depth}
 use Rattle.state.specs.declared.words.Entry.{Entry}
-use Rattle.state.specs.Layout.{Slot, Count, Limit, DistributorControl, Interface, Sources, Private, Spi, Stack, Exists, Room}
-use Rattle.state.specs.Words.{wordAt, put, recordSlot, withRecord, withSources, kept, withInterface, withEnabledAt, entryWord, withEntry, withoutEntry, CanonicalWord, Canonical}
-use Rattle.state.proofs.Accessors.{put-same, put-other, same-or-other, put-written, kept-kept}
+use Rattle.state.specs.Layout.{Slot, DistributorControl, Interface, Sources, Private, Spi, Stack, stackCapacity, Exists, Room, onStack}
+use Rattle.state.specs.Words.{wordAt, put, recordSlot, withRecord, withSources, kept, withInterface, keptDistributorControl, withDistributorControl, entryWord, withEntry, withoutEntry, CanonicalWord, Canonical}
+use Rattle.state.proofs.Accessors.{put-same, put-other, same-or-other, put-written}
+use Rattle.state.proofs.Places.{kept-kept}
 
 -- a slot that says nothing of what lies on a stack
 abbrev pub OffStack : Slot → Type 0
-OffStack Count = Unit
-OffStack Limit = Unit
-OffStack DistributorControl = Unit
-OffStack (Interface v Control) = Unit
-OffStack (Interface v PriorityMask) = Unit
-OffStack (Interface v BinaryPoint) = Unit
-OffStack (Interface v Depth) = ⊥
-OffStack (Sources v n) = Unit
-OffStack (Private v n) = Unit
-OffStack (Spi n) = Unit
-OffStack (Stack v i) = ⊥
+OffStack t = onStack t ≡ false
+
+pub off-stack-apart : (t u : Slot) → onStack t ≡ true → OffStack u → t ≡ u → ⊥
+off-stack-apart t u on off p = true≢false (sym on ∙ ap onStack p ∙ off)
 
 module _ (shape : Shape) (s : List ℕ) (h : Room shape s) (c : Canonical shape s) where
   pub put-canonical : (u : Slot) (w : ℕ) → Exists shape u → OffStack u → CanonicalWord u w → Canonical shape (put shape u w s)
   put-canonical u w e off cw = record {
     written = put-written shape s u w h e cw (c .written);
     cleared = λ v i b d l.
-        put-other shape s (Stack v i) u w (b, l) e (λ p. subst OffStack (sym p) off)
-        ∙ c .cleared v i b (rw (put-other shape s (Interface v Depth) u w b e (λ p. subst OffStack (sym p) off)) at d) l;
+        put-other shape s (Stack v i) u w (b, l) e (off-stack-apart (Stack v i) u refl off)
+        ∙ c .cleared v i b (rw (put-other shape s (Interface v Depth) u w b e (off-stack-apart (Interface v Depth) u refl off)) at d) l;
   }
 
   record-off : (v n : ℕ) → OffStack (recordSlot v n)
@@ -44,31 +39,31 @@ module _ (shape : Shape) (s : List ℕ) (h : Room shape s) (c : Canonical shape 
   record-off v n = go (ltb n 32)
     where
       go : (b : Bool) → OffStack (cond b (Private v n) (Spi n))
-      go true = tt
-      go false = tt
+      go true = refl
+      go false = refl
 
   record-word : (v n : ℕ) (r : InterruptRecord) → InRange r → CanonicalWord (recordSlot v n) (wordOf r)
   unfolding recordSlot
   record-word v n r i = go (ltb n 32)
     where
       go : (b : Bool) → CanonicalWord (cond b (Private v n) (Spi n)) (wordOf r)
-      go true = encoded-canonical r i
-      go false = encoded-canonical r i
+      go true = ap wordOf (decode-encode r i)
+      go false = ap wordOf (decode-encode r i)
 
   pub record-canonical : (v n : ℕ) (r : InterruptRecord) → Exists shape (recordSlot v n) → InRange r → Canonical shape (withRecord shape v n r s)
   record-canonical v n r e i = put-canonical (recordSlot v n) (wordOf r) e (record-off v n) (record-word v n r i)
 
   pub sources-canonical : (v n x : ℕ) → Exists shape (Sources v n) → x < 256 → Canonical shape (withSources shape v n x s)
-  sources-canonical v n x e b = put-canonical (Sources v n) x e tt b
+  sources-canonical v n x e b = put-canonical (Sources v n) x e refl (mod-eq-of-lt b)
 
   pub interface-canonical : (v : ℕ) (k : InterfaceValue) (x : ℕ) → v < shape .count → OffStack (Interface v k) → Canonical shape (withInterface shape v k x s)
   interface-canonical v k x e off = put-canonical (Interface v k) (kept k x) e off (kept-kept k x)
 
-  pub enabled-canonical : (on : Bool) → Canonical shape (withEnabledAt shape on s)
-  enabled-canonical on = put-canonical DistributorControl (bitOf on) tt tt (bit-fits on)
+  pub control-canonical : (x : ℕ) → Canonical shape (withDistributorControl shape x s)
+  control-canonical x = put-canonical DistributorControl (keptDistributorControl x) tt refl (omega arith)
 
   -- an entry of a stack: past the depth only 0 is written
-  pub stack-canonical : (v i w : ℕ) → Exists shape (Stack v i) → w < 2 ^ 18 → (wordAt shape (Interface v Depth) s ≤ i → w ≡ 0)
+  pub stack-canonical : (v i w : ℕ) → Exists shape (Stack v i) → CanonicalWord (Stack v i) w → (wordAt shape (Interface v Depth) s ≤ i → w ≡ 0)
       → Canonical shape (put shape (Stack v i) w s)
   stack-canonical v i w x b dead = record {
     written = put-written shape s (Stack v i) w h x b (c .written);
@@ -93,7 +88,7 @@ module _ (shape : Shape) (s : List ℕ) (h : Room shape s) (c : Canonical shape 
   cleared-canonical v i x = stack-canonical v i 0 x (omega arith) (λ d. refl)
 
   -- a depth below which nothing but 0 is left behind
-  pub depth-canonical : (v d : ℕ) → v < shape .count → ((i : ℕ) → d ≤ i → i < 255 → wordAt shape (Stack v i) s ≡ 0) → Canonical shape (withInterface shape v Depth d s)
+  pub depth-canonical : (v d : ℕ) → v < shape .count → ((i : ℕ) → d ≤ i → i < stackCapacity → wordAt shape (Stack v i) s ≡ 0) → Canonical shape (withInterface shape v Depth d s)
   depth-canonical v d b zeros = record {
     written = put-written shape s (Interface v Depth) d h b refl (c .written);
     cleared = λ u j bu deep l. stack-stays u j bu l ∙ same-or-other shape s (Interface u Depth) (Interface v Depth) bu b
@@ -101,5 +96,5 @@ module _ (shape : Shape) (s : List ℕ) (h : Room shape s) (c : Canonical shape 
         (λ apart. c .cleared u j bu (rw (put-other shape s (Interface u Depth) (Interface v Depth) d bu b apart) at deep) l);
   }
     where
-      stack-stays : (u j : ℕ) → u < shape .count → j < 255 → wordAt shape (Stack u j) (put shape (Interface v Depth) d s) ≡ wordAt shape (Stack u j) s
+      stack-stays : (u j : ℕ) → u < shape .count → j < stackCapacity → wordAt shape (Stack u j) (put shape (Interface v Depth) d s) ≡ wordAt shape (Stack u j) s
       stack-stays u j bu l = put-other shape s (Stack u j) (Interface v Depth) d (bu, l) b (λ p. let z : _≡_ {A = ℕ} 0 1 = cc in omega arith)

@@ -15,7 +15,7 @@ use Rattle.state.specs.Layout.{Slot, Sources, Private, Exists, Room}
 use Rattle.state.specs.Loop.{upTo}
 use Rattle.state.specs.Words.{wordAt, put, recordSlot, recordAt, changed, withSources}
 use Rattle.state.proofs.Accessors.{put-room, put-same, put-other, same-or-other, records-apart, record-no-sources}
-use Rattle.state.proofs.Steps.{Agree, Local, steps-own, steps-others}
+use Rattle.state.proofs.Steps.{View, LocalIn, slots, Agree, Local, steps-own, steps-others}
 
 abbrev pub Of : ℕ → ℕ → Slot → Type 0
 Of v n t = (t ≡ recordSlot v n) ⊎ (t ≡ Sources v n)
@@ -39,19 +39,19 @@ one-vcpu v u n t h = simp (lt-ltb n 32 h) go
     go (inr p) (inr q) = cc
 
 -- two steps, or one of two
-pub then-local : {shape : Shape} {Mine : Slot → Type 0} {f g : List ℕ → List ℕ} → Local shape Mine f → Local shape Mine g → Local shape Mine (λ s. g (f s))
+pub then-local : {view : View} {Mine : view .Thing → Type 0} {f g : List ℕ → List ℕ} → LocalIn view Mine f → LocalIn view Mine g → LocalIn view Mine (λ s. g (f s))
 then-local {f = f} lf lg = record {
   room = λ s h. lg .room (f s) (lf .room s h);
-  others = λ s t e away. lg .others (f s) t e away ∙ lf .others s t e away;
+  others = λ s h t e away. lg .others (f s) (lf .room s h) t e away ∙ lf .others s h t e away;
   own = λ s r hs hr a. lg .own (f s) (f r) (lf .room s hs) (lf .room r hr) (lf .own s r hs hr a);
 }
 
-pub if-local : {shape : Shape} {Mine : Slot → Type 0} {f : List ℕ → List ℕ} (b : Bool) → (b ≡ true → Local shape Mine f) → Local shape Mine (λ s. cond b (f s) s)
+pub if-local : {view : View} {Mine : view .Thing → Type 0} {f : List ℕ → List ℕ} (b : Bool) → (b ≡ true → LocalIn view Mine f) → LocalIn view Mine (λ s. cond b (f s) s)
 if-local true l = l refl
-if-local false l = record { room = λ s h. h; others = λ s t e away. refl; own = λ s r hs hr a. a }
+if-local false l = record { room = λ s h. h; others = λ s h t e away. refl; own = λ s r hs hr a. a }
 
-pub unless-local : {shape : Shape} {Mine : Slot → Type 0} {f : List ℕ → List ℕ} (b : Bool) → Local shape Mine f → Local shape Mine (λ s. cond b s (f s))
-unless-local true l = record { room = λ s h. h; others = λ s t e away. refl; own = λ s r hs hr a. a }
+pub unless-local : {view : View} {Mine : view .Thing → Type 0} {f : List ℕ → List ℕ} (b : Bool) → LocalIn view Mine f → LocalIn view Mine (λ s. cond b s (f s))
+unless-local true l = record { room = λ s h. h; others = λ s h t e away. refl; own = λ s r hs hr a. a }
 unless-local false l = l
 
 -- a word put at a slot of the number, made from the words of its slots
@@ -59,7 +59,7 @@ pub put-local : (shape : Shape) (Mine : Slot → Type 0) (u : Slot) (w : List �
     → ((s r : List ℕ) → Agree shape Mine s r → w s ≡ w r) → Local shape Mine (λ s. put shape u (w s) s)
 put-local shape Mine u w eu mu same = record {
   room = λ s h. put-room shape s u (w s) h;
-  others = λ s t e away. put-other shape s t u (w s) e eu (λ p. away (subst Mine (sym p) mu));
+  others = λ s h t e away. put-other shape s t u (w s) e eu (λ p. away (subst Mine (sym p) mu));
   own = λ s r hs hr a. record {
     agree = λ t e m. same-or-other shape s t u e eu
         (λ p. rw p (put-same shape s u (w s) hs eu ∙ same s r a ∙ sym (put-same shape r u (w r) hr eu)))
@@ -82,7 +82,7 @@ module _ (shape : Shape) (v first n : ℕ) (f : ℕ → List ℕ → List ℕ) (
   run-apart i j t a b = same-or i j (λ e. e) (λ d. absurd (one-number v (first + i) (first + j) t a b (λ p. d (omega arith))))
 
   pub run-written : Room shape s → (i : ℕ) → i < n → Agree shape (Of v (first + i)) (upTo f n s) (f i s)
-  run-written h i b = steps-own shape (λ j. Of v (first + j)) f run-apart n s steps h i b
+  run-written h i b = steps-own (slots shape) (λ j. Of v (first + j)) f run-apart n s steps h i b
 
-  pub run-others : (t : Slot) → Exists shape t → ((i : ℕ) → i < n → Of v (first + i) t → ⊥) → wordAt shape t (upTo f n s) ≡ wordAt shape t s
-  run-others t e away = steps-others shape (λ j. Of v (first + j)) f n s steps t e away
+  pub run-others : Room shape s → (t : Slot) → Exists shape t → ((i : ℕ) → i < n → Of v (first + i) t → ⊥) → wordAt shape t (upTo f n s) ≡ wordAt shape t s
+  run-others h t e away = steps-others (slots shape) (λ j. Of v (first + j)) f n s steps h t e away

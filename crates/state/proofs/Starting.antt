@@ -7,19 +7,15 @@ use native.Mathlib.Nat.{not-suc-le-zero}
 use native.Mathlib.Omega.{arith}
 use lib.ListN.{length, getD, drop, length-set}
 use lib.Seq.{getD-set-same, getD-set-other, drop-set-lt}
-use Rattle.interrupt.specs.Record.{newRecord, startingRecord}
-use Rattle.word.specs.Word.{InRange}
 use Rattle.word.proofs.Cases.{last-or}
-use Rattle.word.proofs.RecordWord.{encoded-canonical}
 use Rattle.state.specs.declared.layout.Shape.{Shape}
-use Rattle.state.specs.declared.layout.InterfaceValue.{InterfaceValue}
-use Rattle.state.specs.declared.layout.InterfaceValue.the-variants.{Control, PriorityMask, BinaryPoint, Depth}
-use Rattle.state.specs.Layout.{Slot, Count, Limit, DistributorControl, Interface, Sources, Private, Spi, Stack, size, place, Exists, Room, slotAt}
+use Rattle.state.specs.declared.layout.InterfaceValue.the-variants.{Depth}
+use Rattle.state.specs.Layout.{Slot, Count, Limit, Interface, Stack, size, place, Exists, Room, slotAt}
 use Rattle.state.specs.Loop.{upTo}
-use Rattle.state.specs.Words.{wordAt, kept, CanonicalWord, Canonical}
+use Rattle.state.specs.Words.{wordAt, startOf, Canonical}
 use Rattle.state.specs.Lent.{HoldsState}
-use Rattle.state.specs.Fresh.{startOf, startedAt, fresh}
-use Rattle.state.proofs.Places.{place-inside, slot-back}
+use Rattle.state.specs.Fresh.{startedAt, fresh}
+use Rattle.state.proofs.Places.{place-inside, slot-back, start-written}
 
 module _ (shape : Shape) (s : List ℕ) where
   started-length : (n : ℕ) → length (upTo (startedAt shape) n s) ≡ length s
@@ -68,26 +64,6 @@ module _ (shape : Shape) (s : List ℕ) where
     state = fresh-room h;
     depths = λ v b. rw (fresh-word (Interface v Depth) h b) (omega arith);
   }
-
-pub starting-in-range : (n : ℕ) → InRange (startingRecord (record { 0 = n }))
-unfolding startingRecord newRecord
-starting-in-range n = record { priority-byte = omega arith; mask-byte = omega arith; owner-byte = tt }
-
-start-kept : (k : InterfaceValue) → kept k 0 ≡ 0
-start-kept Control = refl
-start-kept PriorityMask = refl
-start-kept BinaryPoint = refl
-start-kept Depth = refl
-
-start-written : (shape : Shape) (t : Slot) → CanonicalWord t (startOf shape t)
-start-written shape Count = tt
-start-written shape Limit = tt
-start-written shape DistributorControl = omega arith
-start-written shape (Interface v k) = start-kept k
-start-written shape (Sources v n) = omega arith
-start-written shape (Private v n) = encoded-canonical (startingRecord (record { 0 = n })) (starting-in-range n)
-start-written shape (Spi n) = encoded-canonical (startingRecord (record { 0 = n })) (starting-in-range n)
-start-written shape (Stack v i) = omega arith
 
 -- .. and is as we write it
 pub fresh-canonical : (shape : Shape) (s : List ℕ) → Room shape s → Canonical shape (fresh shape s)

@@ -13,7 +13,7 @@ use Rattle.state.specs.declared.layout.InterfaceValue.the-variants.{Dept
 use Rattle.state.specs.declared.lent.Limited.{Limited}
 use Rattle.state.specs.declared.lent.Limited.the-variants.{Within, Outside}
 use Rattle.state.specs.declared.lent.Lent.the-variants.{Sound, Broken}
-use Rattle.state.specs.Layout.{Interface, size, Limits}
+use Rattle.state.specs.Layout.{Interface, stackCapacity, size, Limits}
 use Rattle.state.specs.Loop.{everyBelow}
 use Rattle.state.specs.Words.{wordAt}
 use Rattle.state.specs.Lent.{inLimits, shaped, limited, storedShape, depthFits, lentAs, validated, HoldsState}
@@ -75,7 +75,7 @@ validated-held s shape = from (storedShape s) refl
     tested t true true p q e w = let same : shape ≡ t = cc in rw same (record {
       stored = limited-shape (getD s 0 0) (getD s 1 0) t w;
       state = record { limits = limited-limits (getD s 0 0) (getD s 1 0) t w; room = leb-true (size t) (length s) p };
-      depths = λ v h. leb-true (wordAt t (Interface v Depth) s) 255 (every-at (depthFits t s) (t .count) v q h);
+      depths = λ v h. leb-true (wordAt t (Interface v Depth) s) stackCapacity (every-at (depthFits t s) (t .count) v q h);
     })
     tested t true false p q e w = let z : _≡_ {A = ℕ} 0 1 = cc in absurd (omega arith)
     tested t false c p q e w = let z : _≡_ {A = ℕ} 0 1 = cc in absurd (omega arith)
@@ -90,4 +90,4 @@ unfolding validated
 held-validated s shape h =
     let c : getD s 0 0 ≡ shape .count = ap (λ (t : Shape). t .count) (sym (h .stored)) in
     let l : getD s 1 0 ≡ shape .limit = ap (λ (t : Shape). t .limit) (sym (h .stored)) in
-    simp (c, l, limits-limited shape (h .state .limits), le-leb (size shape) (length s) (h .state .room), every-true (depthFits shape s) (shape .count) (λ v b. le-leb (wordAt shape (Interface v Depth) s) 255 (h .depths v b)))
+    simp (c, l, limits-limited shape (h .state .limits), le-leb (size shape) (length s) (h .state .room), every-true (depthFits shape s) (shape .count) (λ v b. le-leb (wordAt shape (Interface v Depth) s) stackCapacity (h .depths v b)))

@@ -4,7 +4,8 @@
 -- team's"), and is said here alone: other definitions name a slot. docs/STATE.md has the picture.
 use mathlib.Core.List.{List}
 use mathlib.Core.Path.{_≡_}
-use mathlib.Core.Bool.{cond}
+use mathlib.Core.Bool.{Bool, false, cond, _&&_, _||_}
+use mathlib.Core.Option.{Option, none, some}
 use Prim.Native.Nat.{ℕ, zero, suc, _+_, _*_, _-_, _/_, _%_, _≤_, _<_}
 use lib.Dec.{eqb, ltb}
 use lib.ListN.{length}
@@ -30,29 +31,53 @@ interfaceNumber PriorityMask = 1
 interfaceNumber BinaryPoint = 2
 interfaceNumber Depth = 3
 
--- 52 words for each vCPU: 4 interface values, 16 source sets, 32 private records
+-- the count, the limit and the Distributor's CTLR
+abbrev pub headerWords : ℕ
+headerWords = 3
+
+-- for each vCPU its interface values, then its 16 source sets, then its 32 private records
+abbrev pub sourcesStart : ℕ
+sourcesStart = 4
+
+abbrev pub privateStart : ℕ
+privateStart = sourcesStart + 16
+
+abbrev pub vcpuWords : ℕ
+vcpuWords = privateStart + 32
+
+abbrev pub firstSpi : ℕ
+firstSpi = 32
+
+-- how many entries a stack has room for: "a stored service depth over 255" is refused
+abbrev pub stackCapacity : ℕ
+stackCapacity = 255
+
 abbrev pub vcpuStart : ℕ → ℕ
-vcpuStart v = 3 + 52 * v
+vcpuStart v = headerWords + vcpuWords * v
 
 abbrev pub spiStart : Shape → ℕ
 spiStart shape = vcpuStart (shape .count)
 
--- the stacks stand last: 255 entries for each vCPU
+-- the stacks stand last
 abbrev pub stackStart : Shape → ℕ
-stackStart shape = spiStart shape + (shape .limit - 32)
+stackStart shape = spiStart shape + (shape .limit - firstSpi)
 
 abbrev pub size : Shape → ℕ
-size shape = stackStart shape + 255 * shape .count
+size shape = stackStart shape + stackCapacity * shape .count
+
+-- of the largest state: 8 vCPUs, limit 1020
+abbrev pub largestSize : ℕ
+largestSize = size (record { count = 8; limit = 1020 })
 
 abbrev pub place : Shape → Slot → ℕ
 place shape Count = 0
 place shape Limit = 1
 place shape DistributorControl = 2
 place shape (Interface v k) = vcpuStart v + interfaceNumber k
-place shape (Sources v n) = vcpuStart v + (4 + n)
-place shape (Private v n) = vcpuStart v + (20 + n)
-place shape (Spi n) = spiStart shape + (n - 32)
-place shape (Stack v i) = stackStart shape + (255 * v + i)
+place shape (Sources v n) = vcpuStart v + (sourcesStart + n)
+place shape (Private v n) = vcpuStart v + (privateStart + n)
+place shape (Spi n) = spiStart shape + (n - firstSpi)
+place shape (Stack v i) = stackStart shape + (stackCapacity * v + i)
 
 -- and back: the slot at a place
 unfoldable pub interfaceOf : ℕ → InterfaceValue
@@ -65,14 +90,14 @@ unfoldable pub headerSlot : ℕ → Slot
 headerSlot k = cond (eqb k 0) Count (cond (eqb k 1) Limit DistributorControl)
 
 unfoldable pub vcpuSlot : ℕ → ℕ → Slot
-vcpuSlot v r = cond (ltb r 4) (Interface v (interfaceOf r)) (cond (ltb r 20) (Sources v (r - 4)) (Private v (r - 20)))
+vcpuSlot v r = cond (ltb r sourcesStart) (Interface v (interfaceOf r)) (cond (ltb r privateStart) (Sources v (r - sourcesStart)) (Private v (r - privateStart)))
 
 unfoldable pub slotAt : Shape → ℕ → Slot
 slotAt shape k =
-    cond (ltb k 3) (headerSlot k)
-    (cond (ltb k (spiStart shape)) (vcpuSlot ((k - 3) / 52) ((k - 3) % 52))
-    (cond (ltb k (stackStart shape)) (Spi (k - spiStart shape + 32))
-    (Stack ((k - stackStart shape) / 255) ((k - stackStart shape) % 255))))
+    cond (ltb k headerWords) (headerSlot k)
+    (cond (ltb k (spiStart shape)) (vcpuSlot ((k - headerWords) / vcpuWords) ((k - headerWords) % vcpuWords))
+    (cond (ltb k (stackStart shape)) (Spi (k - spiStart shape + firstSpi))
+    (Stack ((k - stackStart shape) / stackCapacity) ((k - stackStart shape) % stackCapacity))))
 
 -- the slots that a state has
 abbrev pub Exists : Shape → Slot → Type 0
@@ -83,7 +108,62 @@ Exists shape (Interface v k) = v < shape .count
 Exists shape (Sources v n) = (v < shape .count) × (n < 16)
 Exists shape (Private v n) = (v < shape .count) × (n < 32)
 Exists shape (Spi n) = (32 ≤ n) × (n < shape .limit)
-Exists shape (Stack v i) = (v < shape .count) × (i < 255)
+Exists shape (Stack v i) = (v < shape .count) × (i < stackCapacity)
+
+-- what tells slots apart: the kind, of which private and shared records are one; whose it is, if a vCPU's; and which of these it is
+abbrev pub kindOf : Slot → ℕ
+kindOf Count = 0
+kindOf Limit = 1
+kindOf DistributorControl = 2
+kindOf (Interface v k) = 3
+kindOf (Sources v n) = 4
+kindOf (Private v n) = 5
+kindOf (Spi n) = 5
+kindOf (Stack v i) = 6
+
+abbrev pub vcpuOf : Slot → Option ℕ
+vcpuOf Count = none
+vcpuOf Limit = none
+vcpuOf DistributorControl = none
+vcpuOf (Interface v k) = some v
+vcpuOf (Sources v n) = some v
+vcpuOf (Private v n) = some v
+vcpuOf (Spi n) = none
+vcpuOf (Stack v i) = some v
+
+abbrev pub numberOf : Slot → ℕ
+numberOf Count = 0
+numberOf Limit = 0
+numberOf DistributorControl = 0
+numberOf (Interface v k) = interfaceNumber k
+numberOf (Sources v n) = n
+numberOf (Private v n) = n
+numberOf (Spi n) = n
+numberOf (Stack v i) = i
+
+-- other definitions ask by these, so that a new kind of slot is none of theirs
+abbrev pub sameKind : Slot → Slot → Bool
+sameKind t u = eqb (kindOf t) (kindOf u)
+
+abbrev pub isRecord : Slot → Bool
+isRecord t = sameKind t (Spi 0)
+
+abbrev pub isSources : Slot → Bool
+isSources t = sameKind t (Sources 0 0)
+
+abbrev pub isDepth : Slot → Bool
+isDepth t = sameKind t (Interface 0 Depth) && eqb (numberOf t) (interfaceNumber Depth)
+
+abbrev pub isEntry : Slot → Bool
+isEntry t = sameKind t (Stack 0 0)
+
+abbrev pub onStack : Slot → Bool
+onStack t = isDepth t || isEntry t
+
+-- it is a vCPU's, and of that one something holds
+abbrev pub ofVcpu : Option ℕ → (ℕ → Bool) → Bool
+ofVcpu none holds = false
+ofVcpu (some v) holds = holds v
 
 -- "1 to 8 vCPUs; the SPI limit is 32 to 1020"
 pub record Limits (shape : Shape) : Type 0 where

@@ -12,7 +12,7 @@ use Rattle.state.specs.declared.lent.Limited.{Limited}
 use Rattle.state.specs.declared.lent.Limited.the-variants.{Within, Outside}
 use Rattle.state.specs.declared.lent.Lent.{Lent}
 use Rattle.state.specs.declared.lent.Lent.the-variants.{Sound, Broken}
-use Rattle.state.specs.Layout.{Interface, size, Room}
+use Rattle.state.specs.Layout.{Interface, stackCapacity, size, Room}
 use Rattle.state.specs.Loop.{everyBelow}
 use Rattle.state.specs.Words.{wordAt}
 
@@ -31,7 +31,7 @@ abbrev pub storedShape : List ℕ → Limited
 storedShape s = limited (getD s 0 0) (getD s 1 0)
 
 abbrev pub depthFits : Shape → List ℕ → ℕ → Bool
-depthFits shape s v = leb (wordAt shape (Interface v Depth) s) 255
+depthFits shape s v = leb (wordAt shape (Interface v Depth) s) stackCapacity
 
 abbrev pub lentAs : List ℕ → Limited → Lent
 lentAs s Outside = Broken
@@ -44,4 +44,4 @@ validated s = lentAs s (storedShape s)
 pub record HoldsState (shape : Shape) (s : List ℕ) : Type 0 where
   pub stored : shape ≡ shaped (getD s 0 0) (getD s 1 0)
   pub state : Room shape s
-  pub depths : (v : ℕ) → v < shape .count → wordAt shape (Interface v Depth) s ≤ 255
+  pub depths : (v : ℕ) → v < shape .count → wordAt shape (Interface v Depth) s ≤ stackCapacity

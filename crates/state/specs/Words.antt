@@ -4,17 +4,18 @@
 use mathlib.Core.Path.{_≡_}
 use mathlib.Core.Bool.{Bool, cond}
 use mathlib.Core.List.{List}
-use Prim.Native.Nat.{ℕ, _+_, _*_, _/_, _%_, _^_, _≤_, _<_}
+use Prim.Native.Nat.{ℕ, _+_, _*_, _/_, _%_, _≤_, _<_}
 use lib.Dec.{eqb}
 use lib.ListN.{getD, set}
 use Rattle.interrupt.specs.Types.{isPrivateId, priorityOf}
+use Rattle.interrupt.specs.Record.{startingRecord}
 use Rattle.interrupt.specs.declared.record.InterruptRecord.{InterruptRecord}
-use Rattle.word.specs.Word.{bitOf, recordOf, wordOf}
+use Rattle.word.specs.Word.{recordOf, wordOf}
 use Rattle.state.specs.declared.layout.Shape.{Shape}
 use Rattle.state.specs.declared.layout.InterfaceValue.{InterfaceValue}
 use Rattle.state.specs.declared.layout.InterfaceValue.the-variants.{Control, PriorityMask, BinaryPoint, Depth}
 use Rattle.state.specs.declared.words.Entry.{Entry}
-use Rattle.state.specs.Layout.{Slot, Count, Limit, DistributorControl, Interface, Sources, Private, Spi, Stack, place, Exists, Room}
+use Rattle.state.specs.Layout.{Slot, Count, Limit, DistributorControl, Interface, Sources, Private, Spi, Stack, stackCapacity, place, Exists, Room}
 
 abbrev pub wordAt : Shape → Slot → List ℕ → ℕ
 wordAt shape t s = getD s (place shape t) 0
@@ -67,11 +68,21 @@ abbrev pub withInterface : Shape → ℕ → InterfaceValue → ℕ → List ℕ
 withInterface shape v k x s = put shape (Interface v k) (kept k x) s
 
 -- the Distributor's CTLR "keeps bit 0"
-abbrev pub enabledAt : Shape → List ℕ → Bool
-enabledAt shape s = eqb (wordAt shape DistributorControl s % 2) 1
+abbrev pub keptDistributorControl : ℕ → ℕ
+keptDistributorControl w = w % 2
 
-abbrev pub withEnabledAt : Shape → Bool → List ℕ → List ℕ
-withEnabledAt shape on s = put shape DistributorControl (bitOf on) s
+abbrev pub distributorControlAt : Shape → List ℕ → ℕ
+distributorControlAt shape s = keptDistributorControl (wordAt shape DistributorControl s)
+
+abbrev pub withDistributorControl : Shape → ℕ → List ℕ → List ℕ
+withDistributorControl shape x s = put shape DistributorControl (keptDistributorControl x) s
+
+-- bit 0 of a CTLR, the Distributor's or an interface's: "0 (enable)"
+abbrev pub enableBit : ℕ → Bool
+enableBit control = eqb (control % 2) 1
+
+abbrev pub enabledAt : Shape → List ℕ → Bool
+enabledAt shape s = enableBit (distributorControlAt shape s)
 
 -- a stack entry: the number in the low 10 bits, the priority in the next 8
 abbrev pub entryOf : ℕ → Entry
@@ -95,18 +106,34 @@ pub record HoldsSlot (shape : Shape) (t : Slot) (s : List ℕ) : Type 0 where
   pub state : Room shape s
   pub exists : Exists shape t
 
+-- what a slot starts as: "SGIs start enabled and edge; the others disabled and level" (`startingRecord`), and "All start at 0, stacks and source
+-- bits empty"
+abbrev pub startOf : Shape → Slot → ℕ
+startOf shape Count = shape .count
+startOf shape Limit = shape .limit
+startOf shape DistributorControl = 0
+startOf shape (Interface v k) = 0
+startOf shape (Sources v n) = 0
+startOf shape (Private v n) = wordOf (startingRecord (record { 0 = n }))
+startOf shape (Spi n) = wordOf (startingRecord (record { 0 = n }))
+startOf shape (Stack v i) = 0
+
+-- the word that is written for what a word means
+abbrev pub rewritten : Slot → ℕ → ℕ
+rewritten Count w = w
+rewritten Limit w = w
+rewritten DistributorControl w = keptDistributorControl w
+rewritten (Interface v k) w = kept k w
+rewritten (Sources v n) w = w % 256
+rewritten (Private v n) w = wordOf (recordOf w)
+rewritten (Spi n) w = wordOf (recordOf w)
+rewritten (Stack v i) w = entryWord (entryOf w)
+
 -- a word of a slot as we write it
 abbrev pub CanonicalWord : Slot → ℕ → Type 0
-CanonicalWord Count w = Unit
-CanonicalWord Limit w = Unit
-CanonicalWord DistributorControl w = w < 2
-CanonicalWord (Interface v k) w = kept k w ≡ w
-CanonicalWord (Sources v n) w = w < 256
-CanonicalWord (Private v n) w = Rattle.word.specs.Word.CanonicalRecord w
-CanonicalWord (Spi n) w = Rattle.word.specs.Word.CanonicalRecord w
-CanonicalWord (Stack v i) w = w < 2 ^ 18
+CanonicalWord t w = rewritten t w ≡ w
 
 -- a state as we write it: each word is, and what lies past the newest entry of a stack is cleared
 pub record Canonical (shape : Shape) (s : List ℕ) : Type 0 where
   pub written : (t : Slot) → Exists shape t → CanonicalWord t (wordAt shape t s)
-  pub cleared : (v i : ℕ) → v < shape .count → wordAt shape (Interface v Depth) s ≤ i → i < 255 → wordAt shape (Stack v i) s ≡ 0
+  pub cleared : (v i : ℕ) → v < shape .count → wordAt shape (Interface v Depth) s ≤ i → i < stackCapacity → wordAt shape (Stack v i) s ≡ 0

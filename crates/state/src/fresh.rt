@@ -4,11 +4,16 @@ ghost use Prim.Native.Nat.{ℕ, _<_};
 ghost use Rattle.state.specs.declared.layout.Shape.{Shape};
 ghost use Rattle.interrupt.specs.Record.{startingRecord};
 ghost use Rattle.word.specs.Word.{wordOf};
-ghost use Rattle.state.specs.Layout.{Limits, Room, size, headerSlot, vcpuSlot, slotAt};
-ghost use Rattle.state.specs.Fresh.{startOf, fresh};
+ghost use Rattle.state.specs.Layout.{Limits, Room, vcpuWords, size, headerSlot, vcpuSlot, slotAt};
+ghost use Rattle.state.specs.Words.{startOf};
+ghost use Rattle.state.specs.Fresh.{fresh};
 use crate::layout::COUNT;
+use crate::layout::FIRST_SPI;
+use crate::layout::HEADER_WORDS;
 use crate::layout::LIMIT;
+use crate::layout::PRIVATE_START;
 use crate::layout::Shape;
+use crate::layout::VCPU_WORDS;
 use interrupt::IntId;
 use interrupt::InterruptRecord;
 use word::encode;
@@ -34,13 +39,13 @@ fn header_word(shape: Shape, at: usize) -> u32
 
 // `at` counts from the vCPU's first word: interface values and sources start at 0.
 fn vcpu_word(at: usize) -> u32
-    requires { ⌜ at < 52 ⌝ }
+    requires { ⌜ at < vcpuWords ⌝ }
     ensures { λ r. ⌜ ((shape : Shape) (v : ℕ) → r ≡ startOf shape (vcpuSlot v at)) ⌝ }
 {
-    if at < 20 {
+    if at < PRIVATE_START {
         0
     } else {
-        starting_word(IntId((at - 20) as u32))
+        starting_word(IntId((at - PRIVATE_START) as u32))
     }
 }
 
@@ -48,15 +53,15 @@ fn word_at(shape: Shape, at: usize) -> u32
     requires { ⌜ (Limits shape) × (at < size shape) ⌝ }
     ensures { λ r. ⌜ r ≡ startOf shape (slotAt shape at) ⌝ }
 {
-    if at < 3 {
+    if at < HEADER_WORDS {
         return header_word(shape, at);
     }
     let spis = shape.spi_start();
     if at < spis {
-        return vcpu_word((at - 3) % 52);
+        return vcpu_word((at - HEADER_WORDS) % VCPU_WORDS);
     }
     if at < shape.stack_start() {
-        starting_word(IntId((at - spis + 32) as u32))
+        starting_word(IntId((at - spis + FIRST_SPI as usize) as u32))
     } else {
         0
     }

@@ -1,7 +1,7 @@
 // Where each word of the state stands. Every place is linear in the vCPU's and the interrupt's number.
 ghost use mathlib.Core.Path.{_≡_};
 ghost use Prim.Native.Nat.{_+_, _<_};
-ghost use Rattle.state.specs.Layout.{interfaceNumber, vcpuStart, spiStart, stackStart, size, Limits, Inside, Placed, Interface, Sources, Private, Spi, Stack};
+ghost use Rattle.state.specs.Layout.{interfaceNumber, sourcesStart, vcpuStart, spiStart, stackStart, size, Limits, Inside, Placed, Interface, Sources, Private, Spi, Stack};
 ghost use Rattle.state.specs.Words.{recordSlot, RecordThere};
 use interrupt::GicVcpuId;
 use interrupt::IntId;
@@ -12,6 +12,26 @@ pub const COUNT: usize = 0;
 pub const LIMIT: usize = 1;
 
 pub const DISTRIBUTOR_CONTROL: usize = 2;
+
+pub const HEADER_WORDS: usize = 3;
+
+// A vCPU's words: its interface values, then its source sets, then its private records.
+const SOURCES_START: usize = 4;
+
+pub const PRIVATE_START: usize = SOURCES_START + 16;
+
+pub const VCPU_WORDS: usize = PRIVATE_START + 32;
+
+pub const FIRST_SPI: u32 = 32;
+
+// How many entries a stack has room for.
+pub const STACK_CAPACITY: u32 = 255;
+
+// The words of the largest state, of 8 vCPUs and limit 1020.
+pub const LARGEST_SIZE: usize = HEADER_WORDS
+    + VCPU_WORDS * 8
+    + (1020 - FIRST_SPI) as usize
+    + STACK_CAPACITY as usize * 8;
 
 // How many vCPUs, and the first number that is no interrupt.
 pub struct Shape {
@@ -29,7 +49,7 @@ pub enum InterfaceValue {
 
 impl InterfaceValue {
     fn number(self) -> usize
-        ensures { λ r. ⌜ (r ≡ interfaceNumber self) × (r < 4) ⌝ }
+        ensures { λ r. ⌜ (r ≡ interfaceNumber self) × (r < sourcesStart) ⌝ }
     {
         match self {
             InterfaceValue::Control => 0,
@@ -45,14 +65,14 @@ impl Shape {
         requires { ⌜ Limits self ⌝ }
         ensures { λ r. ⌜ r ≡ spiStart self ⌝ }
     {
-        3 + 52 * self.count
+        HEADER_WORDS + VCPU_WORDS * self.count
     }
 
     pub fn stack_start(self) -> usize
         requires { ⌜ Limits self ⌝ }
         ensures { λ r. ⌜ r ≡ stackStart self ⌝ }
     {
-        self.spi_start() + (self.limit - 32) as usize
+        self.spi_start() + (self.limit - FIRST_SPI) as usize
     }
 
     // How many words a state takes.
@@ -60,7 +80,7 @@ impl Shape {
         requires { ⌜ Limits self ⌝ }
         ensures { λ r. ⌜ r ≡ size self ⌝ }
     {
-        self.stack_start() + 255 * self.count
+        self.stack_start() + STACK_CAPACITY as usize * self.count
     }
 }
 
@@ -68,7 +88,7 @@ fn vcpu_start(vcpu: GicVcpuId) -> usize
     requires { ⌜ vcpu .0 < 8 ⌝ }
     ensures { λ r. ⌜ r ≡ vcpuStart (vcpu .0) ⌝ }
 {
-    3 + 52 * vcpu.0
+    HEADER_WORDS + VCPU_WORDS * vcpu.0
 }
 
 pub fn interface_place(shape: Shape, vcpu: GicVcpuId, value: InterfaceValue) -> usize
@@ -82,21 +102,21 @@ pub fn sources_place(shape: Shape, vcpu: GicVcpuId, sgi: IntId) -> usize
     requires { ⌜ Inside shape (Sources (vcpu .0) (sgi .0)) ⌝ }
     ensures { λ r. ⌜ Placed shape (Sources (vcpu .0) (sgi .0)) r ⌝ }
 {
-    vcpu_start(vcpu) + (4 + sgi.0 as usize)
+    vcpu_start(vcpu) + (SOURCES_START + sgi.0 as usize)
 }
 
 fn private_place(shape: Shape, vcpu: GicVcpuId, intid: IntId) -> usize
     requires { ⌜ Inside shape (Private (vcpu .0) (intid .0)) ⌝ }
     ensures { λ r. ⌜ Placed shape (Private (vcpu .0) (intid .0)) r ⌝ }
 {
-    vcpu_start(vcpu) + (20 + intid.0 as usize)
+    vcpu_start(vcpu) + (PRIVATE_START + intid.0 as usize)
 }
 
 fn spi_place(shape: Shape, intid: IntId) -> usize
     requires { ⌜ Inside shape (Spi (intid .0)) ⌝ }
     ensures { λ r. ⌜ Placed shape (Spi (intid .0)) r ⌝ }
 {
-    shape.spi_start() + (intid.0 - 32) as usize
+    shape.spi_start() + (intid.0 - FIRST_SPI) as usize
 }
 
 // A private number has a record for each vCPU, an SPI one for all.
@@ -115,5 +135,5 @@ pub fn stack_place(shape: Shape, vcpu: GicVcpuId, index: usize) -> usize
     requires { ⌜ Inside shape (Stack (vcpu .0) index) ⌝ }
     ensures { λ r. ⌜ Placed shape (Stack (vcpu .0) index) r ⌝ }
 {
-    shape.stack_start() + (255 * vcpu.0 + index)
+    shape.stack_start() + (STACK_CAPACITY as usize * vcpu.0 + index)
 }

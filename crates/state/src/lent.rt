@@ -6,6 +6,7 @@ ghost use Rattle.state.specs.Loop.{everyBelow};
 use crate::layout::COUNT;
 use crate::layout::InterfaceValue;
 use crate::layout::LIMIT;
+use crate::layout::STACK_CAPACITY;
 use crate::layout::Shape;
 use crate::words::interface_value;
 use interrupt::GicVcpuId;
@@ -50,7 +51,7 @@ fn depths_fit(words: &[u32], shape: Shape) -> bool
     let count = shape.count;
     let mut v = 0;
     while v < count {
-        if interface_value(words, shape, GicVcpuId(v), InterfaceValue::Depth) > 255 {
+        if interface_value(words, shape, GicVcpuId(v), InterfaceValue::Depth) > STACK_CAPACITY {
             return false;
         }
         v += 1;

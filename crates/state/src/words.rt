@@ -1,7 +1,7 @@
 // What the words of a state mean, and what is written for it: two functions for each kind of slot.
 ghost use mathlib.Core.Path.{_≡_};
-ghost use Rattle.state.specs.Layout.{Interface, Sources, Stack, Room};
-ghost use Rattle.state.specs.Words.{Reached, HoldsSlot, recordAt, withRecord, sourcesAt, withSources, kept, interfaceAt, withInterface, enabledAt, withEnabledAt, entryOf, entryWord, entryAt, withEntry, withoutEntry};
+ghost use Rattle.state.specs.Layout.{Interface, Sources, Stack, Room, Placed};
+ghost use Rattle.state.specs.Words.{Reached, HoldsSlot, recordSlot, recordAt, withRecord, sourcesAt, withSources, kept, interfaceAt, withInterface, keptDistributorControl, distributorControlAt, withDistributorControl, enabledAt, entryOf, entryWord, entryAt, withEntry, withoutEntry};
 use crate::layout::DISTRIBUTOR_CONTROL;
 use crate::layout::InterfaceValue;
 use crate::layout::Shape;
@@ -30,6 +30,21 @@ pub fn record(words: &[u32], shape: Shape, vcpu: GicVcpuId, intid: IntId) -> Int
     decode(words[at])
 }
 
+// The one function that stores a record's word, for whoever has its place already; setup's fill stores every word once.
+pub fn put_record_at(
+    words: &mut [u32],
+    shape: Shape,
+    vcpu: GicVcpuId,
+    intid: IntId,
+    at: usize,
+    record: InterruptRecord,
+)
+    requires { ⌜ (Reached shape (vcpu .0) (intid .0) (now words)) × (Placed shape (recordSlot (vcpu .0) (intid .0)) at) ⌝ }
+    ensures { λ r. ⌜ now (words .exit) ≡ withRecord shape (vcpu .0) (intid .0) «record» (now (words .entry)) ⌝ }
+{
+    words[at] = encode(record);
+}
+
 pub fn put_record(
     words: &mut [u32],
     shape: Shape,
@@ -41,7 +56,7 @@ pub fn put_record(
     ensures { λ r. ⌜ now (words .exit) ≡ withRecord shape (vcpu .0) (intid .0) «record» (now (words .entry)) ⌝ }
 {
     let at = record_place(shape, vcpu, intid);
-    words[at] = encode(record);
+    put_record_at(words, shape, vcpu, intid, at, record);
 }
 
 pub fn sgi_sources(words: &[u32], shape: Shape, vcpu: GicVcpuId, sgi: IntId) -> u8
@@ -96,22 +111,32 @@ pub fn put_interface_value(
     words[at] = value.kept(bits);
 }
 
+// The bits of a word that the Distributor's CTLR has.
+fn kept_distributor_control(word: u32) -> u32
+    ensures { λ r. ⌜ r ≡ keptDistributorControl word ⌝ }
+{
+    word % 2
+}
+
+pub fn distributor_control(words: &[u32], shape: Shape) -> u32
+    requires { ⌜ Room shape (now words) ⌝ }
+    ensures { λ r. ⌜ r ≡ distributorControlAt shape (now (words .entry)) ⌝ }
+{
+    kept_distributor_control(words[DISTRIBUTOR_CONTROL])
+}
+
+pub fn put_distributor_control(words: &mut [u32], shape: Shape, bits: u32)
+    requires { ⌜ Room shape (now words) ⌝ }
+    ensures { λ r. ⌜ now (words .exit) ≡ withDistributorControl shape bits (now (words .entry)) ⌝ }
+{
+    words[DISTRIBUTOR_CONTROL] = kept_distributor_control(bits);
+}
+
 pub fn distributor_enabled(words: &[u32], shape: Shape) -> bool
     requires { ⌜ Room shape (now words) ⌝ }
     ensures { λ r. ⌜ r ≡ enabledAt shape (now (words .entry)) ⌝ }
 {
-    words[DISTRIBUTOR_CONTROL] % 2 == 1
-}
-
-pub fn enable_distributor(words: &mut [u32], shape: Shape, enabled: bool)
-    requires { ⌜ Room shape (now words) ⌝ }
-    ensures { λ r. ⌜ now (words .exit) ≡ withEnabledAt shape enabled (now (words .entry)) ⌝ }
-{
-    if enabled {
-        words[DISTRIBUTOR_CONTROL] = 1;
-    } else {
-        words[DISTRIBUTOR_CONTROL] = 0;
-    }
+    distributor_control(words, shape) % 2 == 1
 }
 
 fn entry_of(word: u32) -> Entry

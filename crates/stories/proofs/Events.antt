@@ -1,5 +1,5 @@
 -- What a ring, a giving and an end make of the SGI n at t: its record, its sources, t's stack; t's enabling they leave. Assumes nothing.
-use mathlib.Core.Path.{_≡_, refl, ap, subst, _∙_}
+use mathlib.Core.Path.{_≡_, refl, sym, ap, _∙_}
 use mathlib.Core.Bool.{Bool, true, false, cond}
 use mathlib.Core.List.{List}
 use mathlib.Core.Logic.{inl, inr}
@@ -13,15 +13,16 @@ use Rattle.interrupt.specs.Record.{setPending, markInflight, setOwner, setState
 use Rattle.word.specs.Word.{recordOf}
 use Rattle.state.specs.declared.layout.Shape.{Shape}
 use Rattle.state.specs.declared.layout.InterfaceValue.the-variants.{Depth}
-use Rattle.state.specs.declared.words.Entry.{Entry}
-use Rattle.state.specs.Layout.{Slot, Count, Limit, DistributorControl, Interface, Sources, Private, Spi, Stack, Exists, Room}
+use Rattle.state.specs.Layout.{Slot, DistributorControl, Interface, Sources, Stack, Exists, Room, onStack, stackCapacity}
 use Rattle.state.specs.Words.{wordAt, recordSlot, recordAt, sourcesAt}
 use Rattle.state.proofs.Accessors.{record-exists}
+use Rattle.state.proofs.Canonical.{OffStack, off-stack-apart}
 use Rattle.state.proofs.Numbers.{Of}
-use Rattle.state.proofs.SlotKinds.{kindOf, kinds-apart, record-apart, apart-record}
+use Rattle.state.proofs.SlotKinds.{kinds-apart, record-apart, apart-record}
 use Rattle.state.proofs.Steps.{Agree}
 use Rattle.sgi.specs.Sgi.{sgiTarget, includes, pendSgi, sendSgi, writeSgir}
 use Rattle.sgi.proofs.Rings.{sgi-exists, sgi-sent, sgi-others, ring-sources, ring-pends}
+use Rattle.select.specs.declared.Candidate.{Candidate}
 use Rattle.service.specs.Service.{depthAt, stackAt, isNewest, Served}
 use Rattle.service.proofs.Stacks.{newest-some, popped-others, stack-same}
 use Rattle.acknowledge.specs.Acknowledge.{givenRecord, given, Givable}
@@ -31,21 +32,19 @@ use Rattle.delivery.proofs.Deactivation.{deactivated-others, deactivated-record
 use Rattle.delivery.proofs.Ended.{ended-others, ended-popped, ended-record}
 use Rattle.delivery.proofs.Given.{given-others, given-sgi}
 use Rattle.moves.proofs.Slots.{no-number}
-use Rattle.stories.proofs.Steady.{Enables, Steady}
+use Rattle.stories.proofs.Steady.{Enables, each-enables, Steady}
 
--- a slot of the enabling is neither a record nor a source set nor a stack's
-enables-kind : (t : ℕ) (y : Slot) → Enables t y → kindOf y ≤ 3
-enables-kind t Count e = absurd e
-enables-kind t Limit e = absurd e
-enables-kind t DistributorControl e = omega arith
-enables-kind t (Interface v k) e = omega arith
-enables-kind t (Sources v n) e = absurd e
-enables-kind t (Private v n) e = absurd e
-enables-kind t (Spi n) e = absurd e
-enables-kind t (Stack v i) e = absurd e
-
+-- a slot of the enabling is neither a record nor a source set, and on no stack
 enables-away : (t v n : ℕ) (y : Slot) → Enables t y → Of v n y → ⊥
-enables-away t v n y e = no-number v n y (λ q. omega (arith, q, enables-kind t y e)) (λ q. omega (arith, q, enables-kind t y e))
+enables-away t v n =
+    each-enables t (λ y. Of v n y → ⊥) (no-number v n DistributorControl refl refl)
+    (λ k off. no-number v n (Interface t k) refl refl)
+
+enables-off : (t : ℕ) (y : Slot) → Enables t y → OffStack y
+enables-off t = each-enables t OffStack refl (λ k off. off)
+
+enables-no : (t : ℕ) (x y : Slot) → onStack x ≡ true → Enables t y → y ≡ x → ⊥
+enables-no t x y on e p = off-stack-apart x y on (enables-off t y e) (sym p)
 
 -- a ring
 module _ (shape : Shape) (t n source value : ℕ) (s : List ℕ) (room : Room shape s) (exists : t < shape .count) (sgi : n < 16) (fits : source < 8)
@@ -70,11 +69,11 @@ module _ (shape : Shape) (t n source value : ℕ) (s : List ℕ) (room : Room sh
   others : (y : Slot) → Exists shape y → ((v : ℕ) → Of v n y → ⊥) → wordAt shape y (writeSgir shape source value s) ≡ wordAt shape y s
   others y e away = ap (wordAt shape y) sent ∙ sgi-others shape source n (sgiTarget value) s room sgi y e (λ v b. away v)
 
-  pub rung-stack : depthAt shape t s ≤ 255 → stackAt shape t (writeSgir shape source value s) ≡ stackAt shape t s
+  pub rung-stack : depthAt shape t s ≤ stackCapacity → stackAt shape t (writeSgir shape source value s) ≡ stackAt shape t s
   rung-stack deep =
       stack-same shape t s (writeSgir shape source value s) deep
-      (others (Interface t Depth) exists (λ v. no-number v n (Interface t Depth) (λ q. omega arith) (λ q. omega arith)))
-      (λ i b. others (Stack t i) (exists, b) (λ v. no-number v n (Stack t i) (λ q. omega arith) (λ q. omega arith)))
+      (others (Interface t Depth) exists (λ v. no-number v n (Interface t Depth) refl refl))
+      (λ i b. others (Stack t i) (exists, b) (λ v. no-number v n (Stack t i) refl refl))
 
   pub rung-steady : Steady shape t n s (writeSgir shape source value s)
   unfolding setPending
@@ -84,18 +83,14 @@ module _ (shape : Shape) (t n source value : ℕ) (s : List ℕ) (room : Room sh
     priority = ap (λ (q : InterruptRecord). q .priority) rung-record;
   }
 
--- the depth is no part of the enabling
-no-depth : (t v : ℕ) (y : Slot) → Enables t y → y ≡ Interface v Depth → ⊥
-no-depth t v y e p = subst (Enables t) p e
-
 -- what is given
-module _ (shape : Shape) (t : ℕ) (e : Entry) (s : List ℕ) (g : Givable shape t e s) (sgi : e .intid .0 < 16) where
+module _ (shape : Shape) (t : ℕ) (e : Candidate) (s : List ℕ) (g : Givable shape t e s) (sgi : e .intid .0 < 16) where
   pub given-steady : Steady shape t (e .intid .0) s (given shape t e s)
   unfolding givenRecord synchronizeInflight setState setOwner markInflight setPending
   given-steady = record {
     enabling = record {
-      agree = λ y x c. given-others shape t e s g y x (λ p. enables-away t t (e .intid .0) y c (inl p)) (λ p. enables-away t t (e .intid .0) y c (inr p)) (no-depth t t y c)
-          (kinds-apart y (Stack t (depthAt shape t s)) (λ q. omega (arith, q, enables-kind t y c)));
+      agree = λ y x c. given-others shape t e s g y x (λ p. enables-away t t (e .intid .0) y c (inl p)) (λ p. enables-away t t (e .intid .0) y c (inr p)) (enables-no t (Interface t Depth) y refl c)
+          (enables-no t (Stack t (depthAt shape t s)) y refl c);
     };
     enabled = ap (λ (q : InterruptRecord). q .enabled) after ∙ enabled (eqb (sourcesAt shape t (e .intid .0) (given shape t e s)) 0);
     priority = ap (λ (q : InterruptRecord). q .priority) after ∙ priority (eqb (sourcesAt shape t (e .intid .0) (given shape t e s)) 0);
@@ -165,15 +160,15 @@ module _ (v : ℕ) (r : InterruptRecord) where
 module _ (shape : Shape) (t n : ℕ) (s : List ℕ) (h : Served shape t s) (newest : isNewest n (stackAt shape t s) ≡ true) (below : n < shape .limit) where
   ended-enabling : Agree shape (Enables t) (ended shape t n s) s
   ended-enabling = record {
-    agree = λ y x c. ended-others shape t n s h newest y x (λ p. enables-away t t n y c (inl p)) (no-depth t t y c)
-        (kinds-apart y (Stack t (depthAt shape t s - 1)) (λ q. omega (arith, q, enables-kind t y c)));
+    agree = λ y x c. ended-others shape t n s h newest y x (λ p. enables-away t t n y c (inl p)) (enables-no t (Interface t Depth) y refl c)
+        (enables-no t (Stack t (depthAt shape t s - 1)) y refl c);
   }
 
   pub ended-sources : n < 16 → sourcesAt shape t n (ended shape t n s) ≡ sourcesAt shape t n s
   ended-sources sgi =
       ap (λ (w : ℕ). w % 256)
-      (ended-others shape t n s h newest (Sources t n) (h .exists, sgi) (apart-record (Sources t n) t n (λ q. omega arith))
-      (kinds-apart (Sources t n) (Interface t Depth) (λ q. omega arith)) (kinds-apart (Sources t n) (Stack t (depthAt shape t s - 1)) (λ q. omega arith)))
+      (ended-others shape t n s h newest (Sources t n) (h .exists, sgi) (apart-record (Sources t n) t n refl)
+      (kinds-apart (Sources t n) (Interface t Depth) refl) (kinds-apart (Sources t n) (Stack t (depthAt shape t s - 1)) refl))
 
   pub ended-steady : eoiMode shape t s ≡ false → Steady shape t n s (ended shape t n s)
   ended-steady off = record {
@@ -187,7 +182,7 @@ module _ (shape : Shape) (t n : ℕ) (s : List ℕ) (h : Served shape t s) (newe
       ap (recordAt shape t n) (ended-popped shape t n s h newest on)
       ∙ ap recordOf
       (popped-others shape t s h (newest-some shape t s n newest) (recordSlot t n) (record-exists shape t n (record { numbered = below; banked = λ low. h .exists }))
-      (record-apart t n (Interface t Depth) (λ q. omega arith)) (record-apart t n (Stack t (depthAt shape t s - 1)) (λ q. omega arith)))
+      (record-apart t n (Interface t Depth) refl) (record-apart t n (Stack t (depthAt shape t s - 1)) refl))
 
   pub dropped-steady : eoiMode shape t s ≡ true → Steady shape t n s (ended shape t n s)
   dropped-steady on = record {
@@ -206,4 +201,4 @@ module _ (shape : Shape) (t n : ℕ) (s : List ℕ) (room : Room shape s) (exist
   }
 
   pub deactivated-sources : n < 16 → sourcesAt shape t n (deactivated shape t n s) ≡ sourcesAt shape t n s
-  deactivated-sources sgi = ap (λ (w : ℕ). w % 256) (deactivated-others shape t n s room exists (Sources t n) (exists, sgi) (apart-record (Sources t n) t n (λ q. omega arith)))
+  deactivated-sources sgi = ap (λ (w : ℕ). w % 256) (deactivated-others shape t n s room exists (Sources t n) (exists, sgi) (apart-record (Sources t n) t n refl))

@@ -11,7 +11,7 @@ use Rattle.word.specs.Word.{recordOf}
 use Rattle.state.specs.declared.layout.Shape.{Shape}
 use Rattle.state.specs.Layout.{Slot}
 use Rattle.state.specs.Words.{wordAt, recordAt, changed}
-use Rattle.select.specs.Select.{entryFor}
+use Rattle.select.specs.Select.{candidateFor}
 use Rattle.acknowledge.specs.Acknowledge.{sourceOf, given}
 use Rattle.answer.specs.Answer.{Outcome, gave, went}
 use Rattle.lawful.specs.Lawful.{Controls}
@@ -88,7 +88,7 @@ module _ (h : PulseInFlight) (z : InService h) where
   unfolding sourceOf
   no-source = simp (le-ltb n 16 (z .no-sgi))
 
-  gives : story.readAgain h ≡ gave (n + 1024 * sourceOf shape (h .reader) n (story.turn h)) (given shape (h .reader) (entryFor shape (h .reader) (story.turn h) n) (story.turn h))
+  gives : story.readAgain h ≡ gave (n + 1024 * sourceOf shape (h .reader) n (story.turn h)) (given shape (h .reader) (candidateFor shape (h .reader) (story.turn h) n) (story.turn h))
   gives = given-call shape (h .reader) n (story.turn h) controls₄ (z .reader-exists) (z .there .numbered) (z .takes) pended₄ (z .none-ahead)
 
   pub given-again : GivenAgain h

@@ -2,13 +2,14 @@
 use mathlib.Core.Path.{_≡_, refl, sym, ap, subst, _∙_}
 use mathlib.Core.Bool.{Bool, true, false, cond, _&&_}
 use mathlib.Core.List.{List}
-use Prim.Native.Nat.{ℕ, _%_, _^_, _<_}
+use Prim.Native.Nat.{ℕ, _<_}
 use native.Mathlib.Omega.{arith}
 use lib.Dec.{ltb}
 use borrow.Author.Tests.{ltb-true}
 use Rattle.interrupt.specs.declared.record.InterruptRecord.{InterruptRecord}
 use Rattle.interrupt.specs.Record.{deactivateInflight, setOwner}
 use Rattle.register.specs.declared.frame.AccessWidth.{AccessWidth}
+use Rattle.register.specs.declared.frame.Refusal.{Refusal}
 use Rattle.state.specs.declared.layout.Shape.{Shape}
 use Rattle.state.specs.Words.{recordAt}
 use Rattle.state.proofs.Tests.{left-true, right-true}
@@ -23,7 +24,7 @@ use Rattle.answer.specs.Answer.{Outcome, refused}
 use Rattle.lawful.specs.Lawful.{Controls}
 use Rattle.moves.proofs.Slots.{served}
 use Rattle.moves.proofs.Sounds.{lawful-sound}
-use Rattle.history.specs.History.{Call, Setup, ReadDistributor, WriteDistributor, ReadCpuInterface, WriteCpuInterface, SetLevel, Pulse, called}
+use Rattle.history.specs.History.{WriteCpuInterface, Looks, ReadsRegister, WritesRegister, WritesPlace, Signals, Deed, Starts, Acts, called}
 use Rattle.history.proofs.Each.{valid, each-call}
 
 pub record Idle (shape : Shape) (v n : ℕ) (s : List ℕ) : Type 0 where
@@ -88,40 +89,38 @@ module _ (shape : Shape) (s : List ℕ) (h : Controls shape s) (v n : ℕ) (numb
         newest false e = absurd (omega (arith, numbered, simp e at p))
 
   -- of a write to v's interface
-  abbrev Retires : Call → Outcome → Type 0
-  Retires (Setup count limit) o = Unit
-  Retires (ReadDistributor u offset width) o = Unit
-  Retires (WriteDistributor u offset width value) o = Unit
-  Retires (ReadCpuInterface u offset width) o = Unit
-  Retires (WriteCpuInterface u offset width value) o = u ≡ v → o .retired ≡ n → Idle shape v n (o .state)
-  Retires (SetLevel u m asserted) o = Unit
-  Retires (Pulse u m) o = Unit
+  abbrev Retires : Deed → Outcome → Type 0
+  Retires (Starts count limit) o = Unit
+  Retires (Acts (Looks by)) o = Unit
+  Retires (Acts (ReadsRegister u a)) o = Unit
+  Retires (Acts (WritesRegister u a value)) o = u ≡ v → o .retired ≡ n → Idle shape v n (o .state)
+  Retires (Acts (WritesPlace u a width value)) o = Unit
+  Retires (Acts (Signals u m signal)) o = Unit
 
-  none : (c : Call) (o : Outcome) → o .retired ≡ 1023 → Retires c o
-  none (Setup count limit) o e = tt
-  none (ReadDistributor u offset width) o e = tt
-  none (WriteDistributor u offset width value) o e = tt
-  none (ReadCpuInterface u offset width) o e = tt
-  none (WriteCpuInterface u offset width value) o e = λ p q. absurd (omega (arith, e, q, numbered))
-  none (SetLevel u m asserted) o e = tt
-  none (Pulse u m) o e = tt
+  refused-retires : (d : Deed) (r : Refusal) → Retires d (refused r s)
+  refused-retires (Starts count limit) r = tt
+  refused-retires (Acts (Looks by)) r = tt
+  refused-retires (Acts (ReadsRegister u a)) r = tt
+  refused-retires (Acts (WritesRegister u a value)) r = λ p q. absurd (omega (arith, q, numbered))
+  refused-retires (Acts (WritesPlace u a width value)) r = tt
+  refused-retires (Acts (Signals u m signal)) r = tt
 
   pub retiring-idle : (offset : ℕ) (width : AccessWidth) (value : ℕ) → called (WriteCpuInterface v offset width value) s .retired ≡ n
       → Idle shape v n (called (WriteCpuInterface v offset width value) s .state)
   retiring-idle offset width value =
-      each-call shape s (valid shape s h) Retires
-      (λ c r may. none c (refused r s) refl)
-      (λ c x. none c (Rattle.answer.specs.Answer.gave x s) refl)
-      (λ u at w register found is looked. tt)
-      (λ u at w x register looked p.
-      subst (λ (k : ℕ). writeRetired shape k register (x % 2 ^ 32) s ≡ n → Idle shape v n (writeRegister shape k register (x % 2 ^ 32) s)) (sym p)
-      (each-write shape v s (x % 2 ^ 32) (λ looksUp number r. (looksUp ≡ true → v < shape .count) → number ≡ n → Idle shape v n r)
+      each-call shape s (valid shape s h) (λ c. Retires)
+      (λ c d r may bar. refused-retires d r)
+      (λ c by x. tt)
+      (λ c u register x no. tt)
+      (λ c u register is looked full. tt)
+      (λ c u register x looked p.
+      subst (λ (k : ℕ). writeRetired shape k register x s ≡ n → Idle shape v n (writeRegister shape k register x s)) (sym p)
+      (each-write shape v s x (λ looksUp number r. (looksUp ≡ true → v < shape .count) → number ≡ n → Idle shape v n r)
       (λ looksUp q e. absurd (omega (arith, e, numbered)))
       (λ k away q e. absurd (omega (arith, e, numbered)))
       (λ k q e. ended-idle (q refl) k e)
       (λ k q e. deactivated-idle (q refl) k e)
-      register (subst (λ (k : ℕ). writeRegisterLooksUp register (x % 2 ^ 32) ≡ true → k < shape .count) p looked)))
-      (λ u at w x place found written. tt)
-      (λ u m asserted there past. tt)
-      (λ u m there past. tt)
+      register (subst (λ (k : ℕ). writeRegisterLooksUp register x ≡ true → k < shape .count) p looked)))
+      (λ c u place w x at. tt)
+      (λ c u m signal there past. tt)
       (WriteCpuInterface v offset width value) refl refl

@@ -1,33 +1,31 @@
 -- An interrupt whose turn it is at a vCPU is what an acknowledge hands out; a vCPU that has one that it can take is not quiet. Assumes nothing.
 use mathlib.Core.Path.{_≡_, refl, sym, ap, _∙_}
-use mathlib.Core.Bool.{Bool, true, false, not, _&&_, _||_, true≢false, false≢true}
+use mathlib.Core.Bool.{Bool, true, false, _&&_, _||_, true≢false, false≢true}
 use mathlib.Core.List.{List}
 use Prim.Native.Nat.{ℕ, _+_, _*_, _/_, _%_, _^_, _<_}
 use native.Mathlib.Nat.{one-mul}
 use native.Mathlib.Omega.{arith}
 use lib.Dec.{eqb, ltb}
-use borrow.Author.Tests.{lt-ltb, ltb-false, eq-eqb, not-true}
-use Rattle.state.proofs.Tests.{left-true, right-true}
+use borrow.Author.Tests.{lt-ltb, ltb-false, eq-eqb}
 use Rattle.word.specs.Fields.{gathered}
 use Rattle.word.specs.Word.{bitOf}
 use Rattle.word.proofs.Gathered.{gathered-field}
 use Rattle.word.proofs.RecordWord.{bit-fits}
+use Rattle.state.specs.Layout.{stackCapacity}
 use Rattle.state.specs.declared.layout.Shape.{Shape}
-use Rattle.state.specs.declared.layout.InterfaceValue.the-variants.{PriorityMask}
-use Rattle.state.specs.declared.words.Entry.{Entry}
-use Rattle.state.specs.Words.{recordAt, interfaceAt}
+use Rattle.state.specs.Words.{recordAt}
+use Rattle.select.specs.declared.Candidate.{Candidate}
 use Rattle.select.specs.declared.Selected.{Selected}
 use Rattle.select.specs.declared.Selected.the-variants.{Best, Nothing}
-use Rattle.select.specs.Select as select
-use Rattle.select.specs.Select.{candidate, entryFor, IsBest}
-use Rattle.select.proofs.Meaning.{best-is, is-best}
+use Rattle.select.specs.Select.{candidate, candidateFor, IsBest}
+use Rattle.select.proofs.Meaning.{candidate-idle, best-is, is-best}
 use Rattle.service.specs.Service.{depthAt}
 use Rattle.acknowledge.specs.Acknowledge as acknowledge-of
 use Rattle.acknowledge.specs.Acknowledge.{offer, sourceOf, given}
-use Rattle.acknowledge.proofs.Offers.{offer-is}
-use Rattle.wake.specs.Halves.{urgent, ready}
+use Rattle.acknowledge.proofs.Offers.{offer-is, is-offer}
+use Rattle.wake.specs.Halves.{isSome, ready}
 use Rattle.wake.specs.Wake.{isSpurious, givesNumber, woken, wakeSet}
-use Rattle.wake.proofs.Readiness.{some-at, ready-offer, ready-number}
+use Rattle.wake.proofs.Readiness.{preempting-ready, ready-number}
 use Rattle.delivery.proofs.Answers.{acknowledge-is, acknowledged-is}
 use Rattle.answer.specs.Answer.{gave}
 use Rattle.cpu_interface_frame.specs.CpuInterfaceFrame.{readAnswer}
@@ -52,23 +50,23 @@ right-false false b e = e
 
 module _ (shape : Shape) (v n : ℕ) (s : List ℕ) (h : Controls shape s) (exists : v < shape .count) (numbered : n < shape .limit)
     (takes : Takes shape v n s) (pending : recordAt shape v n s .pending ≡ true) where
-  abbrev pub entry : Entry
-  entry = entryFor shape v s n
+  abbrev pub it : Candidate
+  it = candidateFor shape v s n
 
   is-candidate : candidate shape v s n ≡ true
   unfolding candidate
-  is-candidate = simp (takes .for-it, takes .enabled, pending, takes .idle, lt-ltb _ _ (takes .unmasked))
+  is-candidate = simp (takes .for-it, pending, takes .ready, lt-ltb _ _ (takes .unmasked))
 
   -- whatever else waits, something is handed out
   is-ready : ready shape v s ≡ true
-  unfolding ready
-  is-ready = simp (takes .on, some-at (urgent shape v s) (shape .limit) n numbered (simp (is-candidate, lt-ltb _ _ (takes .preempts))))
+  is-ready = preempting-ready shape v s n numbered is-candidate (takes .preempts) (takes .on)
 
   pub is-number : givesNumber (acknowledge-of.acknowledge shape v s) ≡ true
-  is-number = ready-number shape v s (h .lawful .in-range .state .limits) ∙ simp (is-ready, lt-ltb (depthAt shape v s) 255 (room (offer shape v s) refl))
+  unfolding ready
+  is-number = ready-number shape v s (h .lawful .in-range .state .limits) ∙ simp (is-ready, lt-ltb (depthAt shape v s) stackCapacity (room (offer shape v s) refl))
     where
-      room : (b : Selected) → offer shape v s ≡ b → depthAt shape v s < 255
-      room Nothing p = absurd (true≢false (sym is-ready ∙ (simp p at (ready-offer shape v s))))
+      room : (b : Selected) → offer shape v s ≡ b → depthAt shape v s < stackCapacity
+      room Nothing p = absurd (true≢false (sym is-ready ∙ ap isSome p))
       room (Best e) p = offer-room shape v s (h .lawful .orderly) exists e p
 
   -- and if nothing goes before it, it is
@@ -76,7 +74,7 @@ module _ (shape : Shape) (v n : ℕ) (s : List ℕ) (h : Controls shape s) (exis
     priority : ℕ → ℕ
     priority m = recordAt shape v m s .priority .0
 
-    foremost : IsBest shape v s (shape .limit) entry
+    foremost : IsBest shape v s (shape .limit) it
     unfolding priority
     foremost = record {
       below = numbered;
@@ -86,40 +84,32 @@ module _ (shape : Shape) (v n : ℕ) (s : List ℕ) (h : Controls shape s) (exis
       first = λ m b c e. ltb-false m n (simp (eq-eqb (priority m) (priority n) e) at (right-false (ltb (priority m) (priority n)) (eqb (priority m) (priority n) && ltb m n) (none m b c)));
     }
 
-    offered : offer shape v s ≡ Best entry
-    unfolding offer
-    offered = simp (takes .on, is-best shape v s entry foremost, lt-ltb _ _ (takes .preempts))
+    offered : offer shape v s ≡ Best it
+    offered = is-offer shape v s it (record { on = takes .on; best-one = is-best shape v s it foremost; preempting-one = takes .preempts })
 
-    pub given-move : Giving shape v entry s
-    given-move = record { exists = exists; offered = offered; room = offer-room shape v s (h .lawful .orderly) exists entry offered }
+    pub given-move : Giving shape v it s
+    given-move = record { exists = exists; offered = offered; room = offer-room shape v s (h .lawful .orderly) exists it offered }
 
-    pub given-call : called (iarRead v) s ≡ gave (n + 1024 * sourceOf shape v n s) (given shape v entry s)
+    pub given-call : called (iarRead v) s ≡ gave (n + 1024 * sourceOf shape v n s) (given shape v it s)
     given-call =
         let room = given-move .room in
         let lent = served shape s (lawful-sound (h .lawful)) v exists in
-        acknowledge-call shape s h v exists ∙ simp (acknowledge-is shape v s lent entry offered room, acknowledged-is shape v s lent entry offered room)
+        acknowledge-call shape s h v exists ∙ simp (acknowledge-is shape v s lent it offered room, acknowledged-is shape v s lent it offered room)
 
 -- an active interrupt is not handed out
 pub active-waits : (shape : Shape) (v n : ℕ) (s : List ℕ) → Controls shape s → v < shape .count → n < 1020 → recordAt shape v n s .active ≡ true
     → (source : ℕ) → called (iarRead v) s .value ≡ n + 1024 * source → ⊥
-unfolding acknowledge-of.answered candidate
+unfolding acknowledge-of.answered
 active-waits shape v n s h exists numbered active source p = go (offer shape v s) refl (rw (acknowledge-call shape s h v exists) at p)
   where
-    idle : (m : ℕ) → candidate shape v s m ≡ true → recordAt shape v m s .active ≡ false
-    idle m c =
-        let r = recordAt shape v m s in
-        let mask : ℕ = interfaceAt shape v PriorityMask s in
-        not-true (r .active)
-        (right-true (select.offered v m r && r .enabled && r .pending) (not (r .active)) (left-true (select.offered v m r && r .enabled && r .pending && not (r .active)) (ltb (r .priority .0) mask) c))
-
     go : (b : Selected) → offer shape v s ≡ b → readAnswer (acknowledge-of.answered shape v s b) s (acknowledge-of.acknowledged shape v s) .value ≡ n + 1024 * source → ⊥
     go Nothing o q = omega (arith, q, numbered)
     go (Best e) o q =
         let room = offer-room shape v s (h .lawful .orderly) exists e o in
         let is = best-is shape v s e (offer-is shape v s e o .best-one) in
-        let value : e .intid .0 + 1024 * sourceOf shape v (e .intid .0) s ≡ n + 1024 * source = simp (lt-ltb (depthAt shape v s) 255 room) at q in
+        let value : e .intid .0 + 1024 * sourceOf shape v (e .intid .0) s ≡ n + 1024 * source = simp (lt-ltb (depthAt shape v s) stackCapacity room) at q in
         let same : e .intid .0 ≡ n = omega (arith, value, numbered, is .below, h .lawful .in-range .state .limits .few-numbers) in
-        absurd (false≢true (sym (idle n (rw same at (is .chosen))) ∙ active))
+        absurd (false≢true (sym (candidate-idle shape v s n (rw same at (is .chosen))) ∙ active))
 
 -- the bit of a vCPU in a wake set
 pub wake-bit : (shape : Shape) (v : ℕ) (before after : List ℕ) → v < shape .count → isSpurious (acknowledge-of.acknowledge shape v before) ≡ true

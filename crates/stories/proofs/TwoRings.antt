@@ -14,13 +14,14 @@ use Rattle.interrupt.specs.Record.{setPending}
 use Rattle.word.proofs.RecordWord.{decoded-in-range}
 use Rattle.state.specs.declared.layout.Shape.{Shape}
 use Rattle.state.specs.declared.words.Entry.{Entry}
-use Rattle.state.specs.Layout.{Room}
+use Rattle.state.specs.Layout.{Room, stackCapacity}
 use Rattle.state.specs.Words.{wordAt, recordSlot, RecordThere, recordAt, sourcesAt}
 use Rattle.sgi.specs.Sgi.{mergedSources, writeSgir}
-use Rattle.select.specs.Select.{entryFor}
+use Rattle.select.specs.declared.Candidate.{Candidate}
+use Rattle.select.specs.Select.{candidateFor}
 use Rattle.sgi.proofs.Rings.{joined-some}
 use Rattle.service.specs.Service.{depthAt, stackAt, isNewest, Served}
-use Rattle.acknowledge.specs.Acknowledge.{lowestSource, sourceOf, givenRecord, given, Givable}
+use Rattle.acknowledge.specs.Acknowledge.{lowestSource, sourceOf, givenRecord, pushedFor, given, Givable}
 use Rattle.end.specs.End.{eoiMode, retired, deactivated, ended, endRetired}
 use Rattle.delivery.proofs.Deactivation.{deactivated-record, deactivated-stacks}
 use Rattle.delivery.proofs.Ended.{ended-stack, ended-record, ended-retired}
@@ -38,7 +39,7 @@ use Rattle.stories.proofs.Calls.{ring-call, end-call, deactivate-call, 
 use Rattle.stories.proofs.Elsewhere.{elsewhere-controls, elsewhere-agrees}
 use Rattle.stories.proofs.Events.{rung-record, rung-sources, rung-stack, rung-steady, given-steady, given-left, given-active, retired-served, retired-idle, ended-steady, ended-sources, dropped-record, dropped-steady, deactivated-steady, deactivated-sources}
 use Rattle.stories.proofs.Sources.{pair, lower-first, higher-left, only-source, none-left}
-use Rattle.stories.proofs.Steady.{Steady, then-steady, eoi-same, takes-steady, agree-record, agree-sources, agree-stack, agree-steady}
+use Rattle.stories.proofs.Steady.{Steady, then-steady, eoi-same, takes-idle, takes-steady, agree-record, agree-sources, agree-stack, agree-steady}
 use Rattle.stories.proofs.Turns.{active-waits, is-number, given-call, given-move, wake-bit}
 
 module _ (h : TwoRings) (z : Sleeping h) where
@@ -82,7 +83,7 @@ module _ (h : TwoRings) (z : Sleeping h) where
   there : {s : List ℕ} → Controls shape s → RecordThere shape t n
   there c = record { numbered = numbered c; banked = λ low. exists }
 
-  deep : {s : List ℕ} → Controls shape s → depthAt shape t s ≤ 255
+  deep : {s : List ℕ} → Controls shape s → depthAt shape t s ≤ stackCapacity
   deep {s} c = served shape s (lawful-sound (c .lawful)) t exists .deep
 
   -- a ring adds its source
@@ -143,8 +144,8 @@ module _ (h : TwoRings) (z : Sleeping h) where
     unfolding sourceOf
     source-is = simp (lt-ltb n 16 sgi, w .sources)
 
-    abbrev taken : Entry
-    taken = entryFor shape t s n
+    abbrev taken : Candidate
+    taken = candidateFor shape t s n
 
     gives : called (iarRead t) s ≡ gave (n + 1024 * lowestSource x) (given shape t taken s)
     gives = given-call shape t n s (w .controls) exists (numbered (w .controls)) (takes-it x s w) (pending x s some w) none ∙ simp source-is
@@ -159,16 +160,16 @@ module _ (h : TwoRings) (z : Sleeping h) where
     state : called (iarRead t) s .state ≡ given shape t taken s
     state = ap (λ (o : Outcome). o .state) gives
 
-    serves : (y : ℕ) → mergedSources false x (2 ^ lowestSource x) ≡ y → (y ≡ 0 → ⊥) → Serves (taken ∷ stackAt shape t base) (recordAt shape t n s) y (called (iarRead t) s .state)
+    serves : (y : ℕ) → mergedSources false x (2 ^ lowestSource x) ≡ y → (y ≡ 0 → ⊥) → Serves (pushedFor taken ∷ stackAt shape t base) (recordAt shape t n s) y (called (iarRead t) s .state)
     serves y left more = record {
       controls = every-other-call shape (iarRead t) refl s (w .controls);
       steady = then-steady (w .steady) (rw state (given-steady shape t taken s given-lent sgi));
-      stack = rw state (given-stack shape t taken s given-lent (omega (arith, sgi)) byte ∙ ap (λ (es : List Entry). taken ∷ es) (w .stack));
+      stack = rw state (given-stack shape t taken s given-lent (omega (arith, sgi)) byte ∙ ap (λ (es : List Entry). pushedFor taken ∷ es) (w .stack));
       pends = rw state (given-left shape t taken s given-lent sgi (λ p. more (sym left ∙ sym left-is ∙ p)));
       sources = rw state (left-is ∙ left);
     }
       where
-        byte : taken .priority .0 < 256
+        byte : pushedFor taken .priority .0 < 256
         byte = decoded-in-range (wordAt shape (recordSlot t n) s) .priority-byte
 
   -- EOIR: the stack is as at first
@@ -262,7 +263,7 @@ module _ (h : TwoRings) (z : Sleeping h) where
     controls = z .controls;
     steady = record { enabling = record { agree = λ y x e. refl }; enabled = refl; priority = refl };
     stack = refl;
-    idle = z .takes .idle;
+    idle = takes-idle (z .takes);
     sources = z .unrung;
   }
 
@@ -279,9 +280,9 @@ module _ (h : TwoRings) (z : Sleeping h) where
   high-some e = omega (arith, e, pow-pos high)
 
   abbrev first : Entry
-  first = entryFor shape t (story.bothWait h) n
+  first = pushedFor (candidateFor shape t (story.bothWait h) n)
 
-  first-gives : story.firstRead h ≡ gave (n + 1024 * lowestSource (pair (h .one) (h .other))) (given shape t first (story.bothWait h))
+  first-gives : story.firstRead h ≡ gave (n + 1024 * lowestSource (pair (h .one) (h .other))) (given shape t (candidateFor shape t (story.bothWait h) n) (story.bothWait h))
   first-gives = gives _ _ (joined-some (bitOr 0 (2 ^ h .one)) (h .other)) both-wait (z .none-ahead₁)
 
   lowest : lowestSource (pair (h .one) (h .other)) ≡ low
@@ -323,7 +324,7 @@ module _ (h : TwoRings) (z : Sleeping h) where
   one-waits : Waits (2 ^ high) (story.oneWaits h)
   one-waits = elsewhere-waits (h .meanwhile₅) (2 ^ high) (story.deactivation h .state) (z .elsewhere₅) (retires .waits)
 
-  second-gives : story.secondRead h ≡ gave (n + 1024 * lowestSource (2 ^ high)) (given shape t (entryFor shape t (story.oneWaits h) n) (story.oneWaits h))
+  second-gives : story.secondRead h ≡ gave (n + 1024 * lowestSource (2 ^ high)) (given shape t (candidateFor shape t (story.oneWaits h) n) (story.oneWaits h))
   second-gives = gives _ _ high-some one-waits (z .none-ahead₂)
 
   -- the first ring finds the target asleep, and leaves it something to take

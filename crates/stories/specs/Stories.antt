@@ -6,21 +6,22 @@ use mathlib.Core.List.{List, [], _∷_}
 use Prim.Native.Nat.{ℕ, _+_, _*_, _%_, _^_, _≤_, _<_}
 use lib.Dec.{eqb, ltb}
 use Rattle.register.specs.declared.frame.AccessWidth.{AccessWidth}
+use Rattle.interrupt.specs.Record.{isReady}
+use Rattle.interrupt.specs.With.{withPending}
 use Rattle.register.specs.declared.ranges.Class.{Class}
 use Rattle.register.specs.declared.ranges.Class.the-variants.{Ctlr, Typer, Iidr, Sgir, Bits, Bytes, Other}
 use Rattle.register.specs.declared.distributor.DistributorAccess.{DistributorAccess}
 use Rattle.register.specs.declared.distributor.DistributorAccess.the-variants.{Refused, PrivateWidth, At}
-use Rattle.register.specs.Distributor.{locateDistributor}
 use Rattle.state.specs.declared.layout.Shape.{Shape}
 use Rattle.state.specs.declared.layout.InterfaceValue.the-variants.{PriorityMask}
 use Rattle.state.specs.Words.{RecordThere, recordAt, sourcesAt, interfaceAt}
 use Rattle.sgi.specs.Sgi.{sgiTarget, includes}
-use Rattle.select.specs.Select.{offered, candidate, bothOn}
-use Rattle.service.specs.Service.{running}
+use Rattle.select.specs.Select.{offered, candidate, candidateFor, bothOn}
+use Rattle.acknowledge.specs.Acknowledge.{preempts}
 use Rattle.end.specs.End.{eoiMode}
 use Rattle.answer.specs.Answer.{Outcome}
 use Rattle.lawful.specs.Lawful.{Controls}
-use Rattle.history.specs.History.{Call, Setup, ReadDistributor, WriteDistributor, ReadCpuInterface, WriteCpuInterface, SetLevel, Pulse, called, run, sgirWrite, iarRead, eoirWrite, dirWrite}
+use Rattle.history.specs.History.{Call, WriteCpuInterface, Pulse, Looks, ReadsRegister, WritesRegister, WritesPlace, Signals, Deed, Starts, Acts, deed, called, run, sgirWrite, iarRead, eoirWrite, dirWrite}
 use Rattle.waiting.specs.Waiting.{bit, meets, takesPending, never}
 
 -- what v writes rings the SGI n at t
@@ -32,10 +33,9 @@ pub record Rings (v value t n : ℕ) : Type 0 where
 pub record Takes (shape : Shape) (v n : ℕ) (s : List ℕ) : Type 0 where
   pub on : bothOn shape v s ≡ true
   pub for-it : offered v n (recordAt shape v n s) ≡ true
-  pub enabled : recordAt shape v n s .enabled ≡ true
-  pub idle : recordAt shape v n s .active ≡ false
+  pub ready : isReady (withPending true (recordAt shape v n s)) ≡ true
   pub unmasked : recordAt shape v n s .priority .0 < interfaceAt shape v PriorityMask s
-  pub preempts : recordAt shape v n s .priority .0 < running shape v s
+  pub preempts : preempts shape v s (candidateFor shape v s n) ≡ true
 
 -- and nothing goes before it: "smallest priority, then smallest number"
 abbrev pub ahead : Shape → ℕ → List ℕ → ℕ → ℕ → Bool
@@ -63,14 +63,16 @@ leaves t n v value (Refused r) = true
 leaves t n v value PrivateWidth = true
 leaves t n v value (At place) = leavesAt t n v value (place .class)
 
+abbrev pub isElsewhere : ℕ → ℕ → Deed → Bool
+isElsewhere t n (Starts count limit) = false
+isElsewhere t n (Acts (Looks by)) = true
+isElsewhere t n (Acts (ReadsRegister v a)) = not (eqb v t)
+isElsewhere t n (Acts (WritesRegister v a value)) = not (eqb v t)
+isElsewhere t n (Acts (WritesPlace v a width value)) = not (eqb v t) && leaves t n v value a
+isElsewhere t n (Acts (Signals v m signal)) = true
+
 abbrev pub elsewhere : ℕ → ℕ → Call → Bool
-elsewhere t n (Setup count limit) = false
-elsewhere t n (ReadDistributor v offset width) = true
-elsewhere t n (WriteDistributor v offset width value) = not (eqb v t) && leaves t n v (value % 2 ^ 32) (locateDistributor offset width)
-elsewhere t n (ReadCpuInterface v offset width) = not (eqb v t)
-elsewhere t n (WriteCpuInterface v offset width value) = not (eqb v t)
-elsewhere t n (SetLevel v m asserted) = true
-elsewhere t n (Pulse v m) = true
+elsewhere t n c = isElsewhere t n (deed c)
 
 abbrev pub allElsewhere : ℕ → ℕ → List Call → Bool
 allElsewhere t n [] = true

@@ -6,15 +6,17 @@ use Prim.Native.Nat.{ℕ}
 use native.Mathlib.Omega.{arith}
 use lib.Dec.{leb, ltb}
 use lib.ListN.{length}
-use borrow.Author.Tests.{ltb-true, not-true}
+use borrow.Author.Tests.{ltb-true}
 use Rattle.state.specs.declared.layout.Shape.{Shape}
 use Rattle.state.specs.Lent.{shaped, inLimits}
 use Rattle.state.specs.Layout.{size}
 use Rattle.state.specs.Loop.{everyBelow}
 use Rattle.state.proofs.Tests.{left-true, right-true, every-at}
-use Rattle.select.specs.Select.{offered, candidate, bothOn}
-use Rattle.service.specs.Service.{running}
+use Rattle.select.specs.Select.{offered, candidate, candidateFor, bothOn}
+use Rattle.acknowledge.specs.Acknowledge.{preempts}
 use Rattle.interrupt.specs.declared.record.InterruptRecord.{InterruptRecord}
+use Rattle.interrupt.specs.Record.{isReady}
+use Rattle.interrupt.specs.With.{withPending}
 use Rattle.state.specs.declared.layout.InterfaceValue.the-variants.{PriorityMask}
 use Rattle.state.specs.Words.{recordAt, interfaceAt}
 use Rattle.answer.specs.Answer.{Outcome, gave}
@@ -65,23 +67,21 @@ none-ahead shape v n s e m below c =
 abbrev canTake : Shape → ℕ → ℕ → List ℕ → Bool
 canTake shape v n s =
     let r : InterruptRecord = recordAt shape v n s in
-    bothOn shape v s && (offered v n r && (r .enabled && (not (r .active) && (ltb (r .priority .0) (interfaceAt shape v PriorityMask s) && ltb (r .priority .0) (running shape v s)))))
+    bothOn shape v s && (offered v n r && (isReady (withPending true r) && (ltb (r .priority .0) (interfaceAt shape v PriorityMask s) && preempts shape v s (candidateFor shape v s n))))
 
 can-take : (shape : Shape) (v n : ℕ) (s : List ℕ) → canTake shape v n s ≡ true → Takes shape v n s
 can-take shape v n s e =
     let r : InterruptRecord = recordAt shape v n s in
     let e₁ = right-true (bothOn shape v s) _ e in
     let e₂ = right-true (offered v n r) _ e₁ in
-    let e₃ = right-true (r .enabled) _ e₂ in
-    let e₄ = right-true (not (r .active)) _ e₃ in
-    let below : ℕ → Bool = ltb (r .priority .0) in
+    let e₃ = right-true (isReady (withPending true r)) _ e₂ in
+    let unmasked : Bool = ltb (r .priority .0) (interfaceAt shape v PriorityMask s) in
     record {
       on = left-true (bothOn shape v s) _ e;
       for-it = left-true (offered v n r) _ e₁;
-      enabled = left-true (r .enabled) _ e₂;
-      idle = not-true (r .active) (left-true (not (r .active)) _ e₃);
-      unmasked = ltb-true _ _ (left-true (below (interfaceAt shape v PriorityMask s)) _ e₄);
-      preempts = ltb-true _ _ (right-true (below (interfaceAt shape v PriorityMask s)) _ e₄);
+      ready = left-true (isReady (withPending true r)) _ e₂;
+      unmasked = ltb-true _ _ (left-true unmasked _ e₃);
+      preempts = right-true unmasked _ e₃;
     }
 
 -- two rings

@@ -11,6 +11,7 @@ use libc::STDOUT_FILENO;
 use runner::KEPT;
 use runner::feed;
 use runner::feed_rest;
+use state::layout::LARGEST_SIZE;
 
 // Whether to go on, and how many bytes of a line are kept.
 struct Turn {
@@ -97,7 +98,7 @@ fn run(words: &mut [u32], line: &mut [u8], block: &mut [u8], out: &mut [u8])
 
 // As many words as the largest controller takes: 8 vCPUs, limit 1020.
 fn main() {
-    let mut words = [0u32; 3447];
+    let mut words = [0u32; LARGEST_SIZE];
     let mut line = [0u8; KEPT];
     let mut block = io::large_buffer();
     let mut out = io::large_buffer();

@@ -8,6 +8,7 @@ use lib.Bits.{bitAnd, bitOr, or-shr, or-mod, and-shr, and-mod, and-le-r}
 use lib.Dec.{eqb, leb}
 use lib.Pow.{pow-mono, pow-lt}
 use borrow.Author.Tests.{eqb-true, leb-true, leb-false, eqb-false, ne-eqb, not-true}
+use Rattle.interrupt.specs.Types.{everyVcpu}
 use Rattle.state.specs.Loop.{everyBelow}
 use Rattle.state.proofs.Tests.{every-at}
 use Rattle.acknowledge.specs.Acknowledge.{lowestSource}
@@ -41,29 +42,29 @@ alike true b e = e
 alike false b e = not-true b e
 
 -- cleared: a byte's complement has the bits that the byte has not
-complement : everyBelow (λ u. everyBelow (λ b. cond (not (bit u b)) (bit u (255 - b)) (not (bit u (255 - b)))) 256) 8 ≡ true
+complement : everyBelow (λ u. everyBelow (λ b. cond (not (bit u b)) (bit u (everyVcpu - b)) (not (bit u (everyVcpu - b)))) 256) 8 ≡ true
 unfolding everyBelow
 complement = refl
 
-bit-complement : (u b : ℕ) → u < 8 → b < 256 → bit u (255 - b) ≡ not (bit u b)
+bit-complement : (u b : ℕ) → u < 8 → b < 256 → bit u (everyVcpu - b) ≡ not (bit u b)
 bit-complement u b low byte =
-    alike (not (bit u b)) (bit u (255 - b))
-    (every-at (λ x. cond (not (bit u x)) (bit u (255 - x)) (not (bit u (255 - x)))) 256 b (every-at (λ v. everyBelow (λ x. cond (not (bit v x)) (bit v (255 - x)) (not (bit v (255 - x)))) 256) 8 u complement low) byte)
+    alike (not (bit u b)) (bit u (everyVcpu - b))
+    (every-at (λ x. cond (not (bit u x)) (bit u (everyVcpu - x)) (not (bit u (everyVcpu - x)))) 256 b (every-at (λ v. everyBelow (λ x. cond (not (bit v x)) (bit v (everyVcpu - x)) (not (bit v (everyVcpu - x)))) 256) 8 u complement low) byte)
 
 both-bits : (u a b : ℕ) → bitAnd a b / 2 ^ u % 2 ≡ bitAnd (a / 2 ^ u % 2) (b / 2 ^ u % 2)
 both-bits u a b = ap (λ (x : ℕ). x % 2) (and-shr a b u) ∙ and-mod (a / 2 ^ u) (b / 2 ^ u) 1
 
-pub bit-cleared : (u a b : ℕ) → u < 8 → b < 256 → bit u a ≡ true → bit u b ≡ false → bit u (bitAnd a (255 - b)) ≡ true
+pub bit-cleared : (u a b : ℕ) → u < 8 → b < 256 → bit u a ≡ true → bit u b ≡ false → bit u (bitAnd a (everyVcpu - b)) ≡ true
 bit-cleared u a b low byte e f =
     let left : a / 2 ^ u % 2 ≡ 1 = eqb-true (a / 2 ^ u % 2) 1 e in
-    let right : (255 - b) / 2 ^ u % 2 ≡ 1 = eqb-true ((255 - b) / 2 ^ u % 2) 1 (bit-complement u b low byte ∙ ap not f) in
-    ap (λ (x : ℕ). eqb x 1) (both-bits u a (255 - b) ∙ (λ i. bitAnd (left i) (right i)))
+    let right : (everyVcpu - b) / 2 ^ u % 2 ≡ 1 = eqb-true ((everyVcpu - b) / 2 ^ u % 2) 1 (bit-complement u b low byte ∙ ap not f) in
+    ap (λ (x : ℕ). eqb x 1) (both-bits u a (everyVcpu - b) ∙ (λ i. bitAnd (left i) (right i)))
 
 -- .. and what it has goes
-pub bit-gone : (u a b : ℕ) → u < 8 → b < 256 → bit u b ≡ true → bit u (bitAnd a (255 - b)) ≡ false
+pub bit-gone : (u a b : ℕ) → u < 8 → b < 256 → bit u b ≡ true → bit u (bitAnd a (everyVcpu - b)) ≡ false
 bit-gone u a b low byte e =
-    let off : (255 - b) / 2 ^ u % 2 ≡ 1 → ⊥ = eqb-false ((255 - b) / 2 ^ u % 2) 1 (bit-complement u b low byte ∙ ap not e) in
-    ne-eqb (bitAnd a (255 - b) / 2 ^ u % 2) 1 (λ p. off (omega (arith, sym (both-bits u a (255 - b)) ∙ p, and-le-r (a / 2 ^ u % 2) ((255 - b) / 2 ^ u % 2))))
+    let off : (everyVcpu - b) / 2 ^ u % 2 ≡ 1 → ⊥ = eqb-false ((everyVcpu - b) / 2 ^ u % 2) 1 (bit-complement u b low byte ∙ ap not e) in
+    ne-eqb (bitAnd a (everyVcpu - b) / 2 ^ u % 2) 1 (λ p. off (omega (arith, sym (both-bits u a (everyVcpu - b)) ∙ p, and-le-r (a / 2 ^ u % 2) ((everyVcpu - b) / 2 ^ u % 2))))
 
 -- a power of two has one bit
 lone : everyBelow (λ u. everyBelow (λ l. cond (eqb l u) (bit u (2 ^ l)) (not (bit u (2 ^ l)))) 8) 8 ≡ true
@@ -76,7 +77,7 @@ bit-of-power u l a b =
     (every-at (λ x. cond (eqb x u) (bit u (2 ^ x)) (not (bit u (2 ^ x)))) 8 l (every-at (λ v. everyBelow (λ x. cond (eqb x v) (bit v (2 ^ x)) (not (bit v (2 ^ x)))) 8) 8 u lone a) b)
 
 -- the lowest source taken leaves the others
-pub bit-left : (x u : ℕ) → x < 256 → bit u x ≡ true → (lowestSource x ≡ u → ⊥) → bit u (bitAnd x (255 - 2 ^ lowestSource x)) ≡ true
+pub bit-left : (x u : ℕ) → x < 256 → bit u x ≡ true → (lowestSource x ≡ u → ⊥) → bit u (bitAnd x (everyVcpu - 2 ^ lowestSource x)) ≡ true
 bit-left x u b e apart =
     let low : u < 8 = bit-below x u b e in
     let lowest : lowestSource x < 8 = omega (arith, lowest-is x u e low .1, low) in

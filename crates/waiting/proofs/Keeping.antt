@@ -1,30 +1,31 @@
 -- What holds of a state until a call takes it, whatever it is: if each move that spares it keeps it, and the moves of each call that does not
 -- take it spare it, then it holds after every history that never takes it. Assumes nothing.
 use mathlib.Core.Path.{_≡_, sym, ap, _∙_}
-use mathlib.Core.Bool.{Bool, true, false, not, true≢false}
+use mathlib.Core.Bool.{Bool, true, false, not, _&&_, true≢false}
 use mathlib.Core.List.{List, [], _∷_}
-use Prim.Native.Nat.{ℕ, _+_, _*_, _-_, _%_, _^_, _≤_, _<_}
+use Prim.Native.Nat.{ℕ, _+_, _*_, _-_, _≤_, _<_}
 use native.Mathlib.Omega.{arith}
 use lib.Dec.{eqb, leb, ltb}
-use borrow.Author.Tests.{eqb-true, not-true, eq-eqb, le-leb, lt-ltb, leb-true, ltb-true}
+use borrow.Author.Tests.{eqb-true, not-true, le-leb, lt-ltb, leb-true, ltb-true}
 use Rattle.register.specs.declared.frame.AccessWidth.{AccessWidth}
 use Rattle.register.specs.declared.«cpu_interface».CpuInterfaceRegister.{CpuInterfaceRegister}
+use Rattle.register.specs.declared.distributor.DistributorAccess.{DistributorAccess}
+use Rattle.register.specs.declared.distributor.DistributorAccess.the-variants as distributor
 use Rattle.register.specs.declared.«cpu_interface».CpuInterfaceAccess.the-variants as interface
-use Rattle.register.specs.CpuInterface.{locateCpuInterface}
-use Rattle.register.specs.Distributor.{locateDistributor}
 use Rattle.register.specs.declared.ranges.Class.{Class}
 use Rattle.register.specs.Ranges.{classNumber, classOf}
 use Rattle.register.proofs.Map.{class-of-number}
 use Rattle.state.specs.declared.layout.Shape.{Shape}
-use Rattle.state.specs.declared.words.Entry.{Entry}
-use Rattle.state.specs.Words.{enabledAt}
+use Rattle.state.specs.Words.{RecordThere, enabledAt, changed}
 use Rattle.state.proofs.Tests.{left-true, right-true}
-use Rattle.state.specs.Fresh.{fresh}
-use Rattle.state.specs.Lent.{shaped}
+use Rattle.select.specs.declared.Candidate.{Candidate}
 use Rattle.acknowledge.specs.Acknowledge.{sourceOf, given, acknowledge, acknowledged}
 use Rattle.cpu_interface.specs.CpuInterface.{acknowledging}
-use Rattle.answer.specs.Answer.{Outcome, gave}
+use Rattle.answer.specs.Answer.{Outcome, gave, went}
 use Rattle.cpu_interface_frame.specs.CpuInterfaceFrame.{readAnswer}
+use Rattle.input.specs.declared.Signal.{Signal}
+use Rattle.input.specs.declared.Signal.the-variants.{Level, Edge}
+use Rattle.input.specs.Input as input
 use Rattle.lawful.specs.Lawful.{Controls}
 use Rattle.lawful.proofs.Depths.{offer-room}
 use Rattle.moves.specs.Moves as moves
@@ -32,12 +33,13 @@ use Rattle.moves.specs.Moves.{Move, Changed, Given, moved, Giving, Open, Chain}
 use Rattle.moves.proofs.Acknowledges.{each-acknowledge}
 use Rattle.moves.proofs.Controllers.{chain-keeps}
 use Rattle.moves.proofs.Sounds.{lawful-sound}
-use Rattle.history.specs.History.{Call, Setup, WriteDistributor, ReadCpuInterface, SetLevel, isSetup, called, run}
-use Rattle.history.proofs.Always.{setup-cases, every-other-call}
-use Rattle.history.proofs.Calls.{write-chain, distributor-chain}
-use Rattle.history.proofs.Each.{setup-or-other, valid, each-call}
-use Rattle.history.proofs.Made.{PlaceMade, WriteMade}
-use Rattle.waiting.specs.Waiting.{isClass, gives, among, never}
+use Rattle.history.specs.History.{Call, ReadsRegister, Signals, Deed, Acts, deed, isSetup, called, run}
+use Rattle.history.specs.Made.{PlaceMade, WriteMade, signalChange}
+use Rattle.history.proofs.Always.{each-start, every-other-call}
+use Rattle.history.proofs.Calls.{write-chain}
+use Rattle.history.proofs.Chains.{place-chain}
+use Rattle.history.proofs.Each.{start-or-act, valid, each-call}
+use Rattle.waiting.specs.Waiting.{isClass, among, Taker, takenBy, never}
 
 -- a class is known by its number
 pub is-class : (this c : Class) → isClass this c ≡ true → c ≡ this
@@ -55,89 +57,86 @@ among-is n first count e =
     (omega (arith, low), omega (arith, low, high))
 
 -- what an acknowledge answers that gives v this interrupt, and what it comes to
-abbrev pub handedOut : Shape → ℕ → Entry → List ℕ → ℕ
+abbrev pub handedOut : Shape → ℕ → Candidate → List ℕ → ℕ
 handedOut shape v e s = e .intid .0 + 1024 * sourceOf shape v (e .intid .0) s
 
-abbrev pub handingOut : Shape → ℕ → Entry → List ℕ → Outcome
+abbrev pub handingOut : Shape → ℕ → Candidate → List ℕ → Outcome
 handingOut shape v e s = gave (handedOut shape v e s) (given shape v e s)
 
 -- a controller's acknowledge gives something, or answers 1023 and changes nothing: there is always room
 pub acknowledge-cases : (shape : Shape) (s : List ℕ) → Controls shape s → (v : ℕ) → (enabledAt shape s ≡ true → v < shape .count) → (P : Outcome → Type 0)
-    → P (gave 1023 s) → ((e : Entry) → Giving shape v e s → P (handingOut shape v e s)) → P (readAnswer (acknowledge shape v s) s (acknowledged shape v s))
+    → P (gave 1023 s) → ((e : Candidate) → Giving shape v e s → P (handingOut shape v e s)) → P (readAnswer (acknowledge shape v s) s (acknowledged shape v s))
 acknowledge-cases shape s h v looked P none =
     each-acknowledge shape s (lawful-sound (h .lawful)) v looked (λ a r. P (readAnswer a s r)) none
     (λ e exists p full. absurd (omega (arith, full, offer-room shape v s (h .lawful .orderly) exists e p)))
 
--- what takes something away whenever all starts anew
-abbrev pub Anew : (List ℕ → Call → Outcome → Bool) → Type 0
-Anew takes = (s : List ℕ) (count limit : ℕ) (o : Outcome) → takes s (Setup count limit) o ≡ eqb (o .refusal) 0
+-- calls that take it, by their kind
+abbrev pub taking : (List ℕ → Taker) → List ℕ → Call → Outcome → Bool
+taking taker s c o = takenBy (taker s) (deed c) o
 
 -- a history that never takes it ends in a controller of the same count and limit
-module _ (takes : List ℕ → Call → Outcome → Bool) (anew : Anew takes) where
-  -- a setup that does not take it is refused, and changes nothing
-  refused-setup : (P : List ℕ → Type 0) (s : List ℕ) → P s → (count limit : ℕ) → takes s (Setup count limit) (called (Setup count limit) s) ≡ false → P (called (Setup count limit) s .state)
-  refused-setup P s p count limit =
-      setup-cases count limit s (λ o. takes s (Setup count limit) o ≡ false → P (o .state)) (λ r may no e. p)
-      (λ controls e. absurd (true≢false (sym (anew s count limit (gave 0 (fresh (shaped count limit) s))) ∙ e)))
+module _ (taker : List ℕ → Taker) where
+  -- a start that does not take it is refused, and changes nothing
+  refused-start : (P : List ℕ → Type 0) (s : List ℕ) → P s → (c : Call) → isSetup c ≡ true → taking taker s c (called c s) ≡ false → P (called c s .state)
+  refused-start P s p = each-start s (λ c d o. takenBy (taker s) d o ≡ false → P (o .state)) (λ c d r may e. p) (λ c count limit after controls e. absurd (true≢false e))
 
-  pub call-controls : {shape : Shape} (c : Call) (s : List ℕ) → Controls shape s → takes s c (called c s) ≡ false → Controls shape (called c s .state)
+  pub call-controls : {shape : Shape} (c : Call) (s : List ℕ) → Controls shape s → taking taker s c (called c s) ≡ false → Controls shape (called c s .state)
   call-controls {shape} c s h =
-      setup-or-other (λ d. takes s d (called d s) ≡ false → Controls shape (called d s .state)) (refused-setup (Controls shape) s h) (λ d other e. every-other-call shape d other s h) c
+      start-or-act (λ d. taking taker s d (called d s) ≡ false → Controls shape (called d s .state)) (refused-start (Controls shape) s h) (λ d other e. every-other-call shape d other s h) c
 
-  spared : (c : Call) (cs : List Call) (s : List ℕ) → never takes (c ∷ cs) s ≡ true → takes s c (called c s) ≡ false
-  spared c cs s e = not-true (takes s c (called c s)) (left-true (not (takes s c (called c s))) (never takes cs (called c s .state)) e)
+  spared : (c : Call) (cs : List Call) (s : List ℕ) → never (taking taker) (c ∷ cs) s ≡ true → taking taker s c (called c s) ≡ false
+  spared c cs s e = not-true (taking taker s c (called c s)) (left-true (not (taking taker s c (called c s))) (never (taking taker) cs (called c s .state)) e)
 
-  later : (c : Call) (cs : List Call) (s : List ℕ) → never takes (c ∷ cs) s ≡ true → never takes cs (called c s .state) ≡ true
-  later c cs s e = right-true (not (takes s c (called c s))) (never takes cs (called c s .state)) e
+  later : (c : Call) (cs : List Call) (s : List ℕ) → never (taking taker) (c ∷ cs) s ≡ true → never (taking taker) cs (called c s .state) ≡ true
+  later c cs s e = right-true (not (taking taker s c (called c s))) (never (taking taker) cs (called c s .state)) e
 
-  pub history-controls : {shape : Shape} (cs : List Call) (s : List ℕ) → Controls shape s → never takes cs s ≡ true → Controls shape (run cs s)
+  pub history-controls : {shape : Shape} (cs : List Call) (s : List ℕ) → Controls shape s → never (taking taker) cs s ≡ true → Controls shape (run cs s)
   unfolding run
   history-controls [] s h e = h
   history-controls (c ∷ cs) s h e = history-controls cs (called c s .state) (call-controls c s h (spared c cs s e)) (later c cs s e)
 
 -- all that is asked of what waits in controllers of this shape: `holds` of a state, `takes` of a call in a state, `Spares` of a move in a state
-pub record Waits (shape : Shape) (holds : List ℕ → Bool) (takes : List ℕ → Call → Outcome → Bool) (Spares : Move → List ℕ → Type 0) : Type 0 where
+pub record Waits (shape : Shape) (holds : List ℕ → Bool) (taker : List ℕ → Taker) (Spares : Move → List ℕ → Type 0) : Type 0 where
   pub kept : (m : Move) (s : List ℕ) → Controls shape s → Open shape m s → Spares m s → holds s ≡ true → holds (moved shape m s) ≡ true
-  pub anew : Anew takes
-  pub read : (s : List ℕ) (v offset : ℕ) (width : AccessWidth) (e : Entry)
-      → ((x : ℕ) → handedOut shape v e s ≡ x → gives x (locateCpuInterface offset width) (handingOut shape v e s) ≡ true)
-      → takes s (ReadCpuInterface v offset width) (handingOut shape v e s) ≡ false → Spares (Given v e) s
+  pub read : (s : List ℕ) (v : ℕ) (e : Candidate) → (taker s .by v && eqb (handedOut shape v e s) (taker s .answer)) ≡ false → Spares (Given v e) s
   pub ended : (v : ℕ) (m : Move) → WriteMade v m → (r : List ℕ) → Spares m r
-  pub written : (s : List ℕ) (v offset : ℕ) (width : AccessWidth) (value : ℕ) {o : Outcome} → takes s (WriteDistributor v offset width value) o ≡ false
-      → (m : Move) → PlaceMade shape v (locateDistributor offset width) width (value % 2 ^ 32) m → (r : List ℕ) → Spares m r
-  pub levelled : (s : List ℕ) (v n : ℕ) (asserted : Bool) {o : Outcome} → takes s (SetLevel v n asserted) o ≡ false → Spares (Changed v n (moves.SetLevel asserted)) s
-  pub pulsed : (s : List ℕ) (v n : ℕ) → Spares (Changed v n moves.Pulse) s
+  pub written : (s : List ℕ) (v : ℕ) (a : DistributorAccess) (width : AccessWidth) (value : ℕ) → (taker s .by v && taker s .write a width value) ≡ false
+      → (m : Move) → PlaceMade shape v a width value m → (r : List ℕ) → Spares m r
+  pub signalled : (s : List ℕ) (v n : ℕ) (signal : Signal) → (taker s .by v && taker s .signal n signal) ≡ false → Spares (Changed v n (signalChange signal)) s
 
-module _ {shape : Shape} {holds : List ℕ → Bool} {takes : List ℕ → Call → Outcome → Bool} {Spares : Move → List ℕ → Type 0} (w : Waits shape holds takes Spares) where
+module _ {shape : Shape} {holds : List ℕ → Bool} {taker : List ℕ → Taker} {Spares : Move → List ℕ → Type 0} (w : Waits shape holds taker Spares) where
   module _ (s : List ℕ) (h : Controls shape s) (now : holds s ≡ true) where
     -- a call that comes to this takes it, or it holds
-    abbrev Keeps : Call → Outcome → Type 0
-    Keeps c o = takes s c o ≡ false → holds (o .state) ≡ true
+    abbrev Keeps : Deed → Outcome → Type 0
+    Keeps d o = takenBy (taker s) d o ≡ false → holds (o .state) ≡ true
 
     chained : {May : Move → Type 0} {r : List ℕ} → ((m : Move) → May m → (t : List ℕ) → Spares m t) → Chain shape May s r → holds r ≡ true
     chained spares c = chain-keeps (λ t. holds t ≡ true) (λ m t may o controls p. w .kept m t controls o (spares m may t) p) c h now
 
-    acknowledges : (v offset : ℕ) (width : AccessWidth) (register : CpuInterfaceRegister) → locateCpuInterface offset width ≡ interface.At register → acknowledging register ≡ true
-        → (enabledAt shape s ≡ true → v < shape .count) → Keeps (ReadCpuInterface v offset width) (readAnswer (acknowledge shape v s) s (acknowledged shape v s))
-    acknowledges v offset width register at is looked =
-        acknowledge-cases shape s h v looked (Keeps (ReadCpuInterface v offset width)) (λ e. now)
-        (λ e o q. w .kept (Given v e) s h o (w .read s v offset width e (λ x same. rw (at, is) (eq-eqb (handedOut shape v e s) x same)) q) now)
+    acknowledges : (v : ℕ) (register : CpuInterfaceRegister) → acknowledging register ≡ true
+        → (enabledAt shape s ≡ true → v < shape .count) → Keeps (Acts (ReadsRegister v (interface.At register))) (readAnswer (acknowledge shape v s) s (acknowledged shape v s))
+    acknowledges v register is looked =
+        acknowledge-cases shape s h v looked (Keeps (Acts (ReadsRegister v (interface.At register)))) (λ e. now)
+        (λ e o q. w .kept (Given v e) s h o (w .read s v e (rw is at q)) now)
 
-    other-stays : (c : Call) → isSetup c ≡ false → Keeps c (called c s)
+    signals : (v n : ℕ) → RecordThere shape v n → 16 ≤ n → (signal : Signal) → Keeps (Acts (Signals v n signal)) (went shape 1023 s (changed shape v n (input.signalled signal) s))
+    signals v n there past (Level asserted) e = w .kept (Changed v n (moves.SetLevel asserted)) s h (record { there = there; fits = past }) (w .signalled s v n (Level asserted) e) now
+    signals v n there past Edge e = w .kept (Changed v n moves.Pulse) s h (record { there = there; fits = past }) (w .signalled s v n Edge e) now
+
+    other-stays : (c : Call) → isSetup c ≡ false → Keeps (deed c) (called c s)
     other-stays =
-        each-call shape s (valid shape s h) Keeps (λ c r x e. now) (λ c x e. now) acknowledges
-        (λ v offset width value register looked e. chained (w .ended v) (write-chain shape s (valid shape s h) v (value % 2 ^ 32) register looked))
-        (λ v offset width value place p at e. chained (w .written s v offset width value e) (distributor-chain shape s (valid shape s h) v width (value % 2 ^ 32) place (locateDistributor offset width) p at))
-        (λ v n asserted there past e. w .kept (Changed v n (moves.SetLevel asserted)) s h (record { there = there; fits = past }) (w .levelled s v n asserted e) now)
-        (λ v n there past e. w .kept (Changed v n moves.Pulse) s h (record { there = there; fits = past }) (w .pulsed s v n) now)
+        each-call shape s (valid shape s h) (λ c. Keeps) (λ c d r may bar e. now) (λ c by x e. now) (λ c v register x no e. now) (λ c v register is looked full. acknowledges v register is looked)
+        (λ c v register value looked e. chained (w .ended v) (write-chain shape s (valid shape s h) v value register looked))
+        (λ c v place width value at e. chained (w .written s v (distributor.At place) width value e) (place-chain shape v width value s (lawful-sound (h .lawful)) place at))
+        (λ c v n signal there past. signals v n there past signal)
 
   -- one call
-  pub call-keeps : (c : Call) (s : List ℕ) → Controls shape s → holds s ≡ true → takes s c (called c s) ≡ false → holds (called c s .state) ≡ true
+  pub call-keeps : (c : Call) (s : List ℕ) → Controls shape s → holds s ≡ true → taking taker s c (called c s) ≡ false → holds (called c s .state) ≡ true
   call-keeps c s h now =
-      setup-or-other (λ d. takes s d (called d s) ≡ false → holds (called d s .state) ≡ true) (refused-setup takes (w .anew) (λ r. holds r ≡ true) s now) (other-stays s h now) c
+      start-or-act (λ d. taking taker s d (called d s) ≡ false → holds (called d s .state) ≡ true) (refused-start taker (λ r. holds r ≡ true) s now) (other-stays s h now) c
 
-  pub history-keeps : (cs : List Call) (s : List ℕ) → Controls shape s → holds s ≡ true → never takes cs s ≡ true → holds (run cs s) ≡ true
+  pub history-keeps : (cs : List Call) (s : List ℕ) → Controls shape s → holds s ≡ true → never (taking taker) cs s ≡ true → holds (run cs s) ≡ true
   unfolding run
   history-keeps [] s h now e = now
   history-keeps (c ∷ cs) s h now e =
-      history-keeps cs (called c s .state) (call-controls takes (w .anew) c s h (spared takes (w .anew) c cs s e)) (call-keeps c s h now (spared takes (w .anew) c cs s e)) (later takes (w .anew) c cs s e)
+      history-keeps cs (called c s .state) (call-controls taker c s h (spared taker c cs s e)) (call-keeps c s h now (spared taker c cs s e)) (later taker c cs s e)

@@ -1,6 +1,7 @@
 -- What waits stays until a call takes it, and then it is gone.
 pub mod Accepted
 pub mod BitLaws
+pub mod Going
 pub mod Keeping
 pub mod PendingGoes
 pub mod PendingMoves

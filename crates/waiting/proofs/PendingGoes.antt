@@ -1,55 +1,50 @@
 -- The calls that take a pending PPI or SPI do take it: after each of them it is not pending. Assumes nothing.
 use mathlib.Core.Path.{_≡_, refl, sym, ap, subst, _∙_}
-use mathlib.Core.Bool.{Bool, true, false, not, _&&_, true≢false, false≢true}
+use mathlib.Core.Bool.{Bool, true, false, _&&_, and-false, true≢false, false≢true}
 use mathlib.Core.List.{List}
-use Prim.Native.Nat.{ℕ, _+_, _-_, _%_, _^_, _≤_, _<_}
+use Prim.Native.Nat.{ℕ, _+_, _-_, _≤_, _<_}
 use native.Mathlib.Omega.{arith}
-use lib.Dec.{eqb, ltb}
-use borrow.Author.Tests.{le-ltb, eqb-true, not-true}
+use lib.Dec.{eqb}
+use borrow.Author.Tests.{le-ltb, eqb-true}
 use Rattle.interrupt.specs.declared.record.InterruptRecord.{InterruptRecord}
-use Rattle.interrupt.specs.Record.{setPending, setLevel, markInflight, setOwner, setState, synchronizeInflight, fallsIdle}
+use Rattle.interrupt.specs.Record.{setLevel, markInflight, setOwner, setState, synchronizeInflight, fallsIdle}
 use Rattle.word.specs.Fields.{fieldAt}
 use Rattle.word.specs.Word.{recordOf}
 use Rattle.register.specs.declared.frame.AccessWidth.{AccessWidth}
 use Rattle.register.specs.declared.ranges.BitRegister.the-variants.{Icpendr}
 use Rattle.register.specs.declared.ranges.Class.the-variants.{Bits}
-use Rattle.register.specs.declared.distributor.DistributorAccess.{DistributorAccess}
+use Rattle.register.specs.declared.distributor.Place.{Place}
 use Rattle.register.specs.declared.distributor.DistributorAccess.the-variants as distributor
-use Rattle.register.specs.CpuInterface.{locateCpuInterface}
-use Rattle.register.specs.Distributor.{locateDistributor}
 use Rattle.state.specs.declared.layout.Shape.{Shape}
-use Rattle.state.specs.declared.layout.InterfaceValue.the-variants.{PriorityMask}
-use Rattle.state.specs.declared.words.Entry.{Entry}
 use Rattle.state.specs.Layout.{Slot}
-use Rattle.state.specs.Words.{wordAt, RecordThere, recordAt, interfaceAt}
+use Rattle.state.specs.Words.{wordAt, RecordThere, recordAt, changed, interfaceAt}
 use Rattle.state.proofs.Tests.{left-true, right-true}
 use Rattle.bits.specs.Bits.{writeBits, BitWordAt}
 use Rattle.bits.proofs.Registers.{record-written}
-use Rattle.select.specs.Select.{offered, candidate}
-use Rattle.select.proofs.Meaning.{best-is}
+use Rattle.select.specs.declared.Candidate.{Candidate}
+use Rattle.select.proofs.Meaning.{candidate-idle, best-is}
 use Rattle.acknowledge.specs.Acknowledge.{givenRecord, given}
 use Rattle.acknowledge.proofs.Offers.{offer-is}
 use Rattle.delivery.proofs.Given.{given-record}
-use Rattle.places.specs.Places.{Located}
+use Rattle.places.specs.Places.{writePlaceLooksUp, writePlace, Located}
 use Rattle.places.proofs.Fits.{private-word, bit-word}
 use Rattle.lawful.specs.Lawful.{OrderlyRecord, Controls}
 use Rattle.moves.specs.Moves as moves
 use Rattle.moves.specs.Moves.{Giving}
 use Rattle.moves.proofs.Controllers.{changed-record}
+use Rattle.moves.proofs.Pending.{left-cleared}
 use Rattle.moves.proofs.Slots.{givable}
 use Rattle.moves.proofs.Sounds.{lawful-sound}
-use Rattle.input.specs.declared.Signal.the-variants.{Level}
-use Rattle.history.specs.History.{Call, Setup, ReadDistributor, WriteDistributor, ReadCpuInterface, WriteCpuInterface, SetLevel, Pulse, isSetup, called}
-use Rattle.waiting.specs.Waiting.{pends, meets, gives, isClass, among, clearsPendingAt, takesPending}
-use Rattle.waiting.proofs.Accepted.{write-call, input-call, hands-out}
+use Rattle.input.specs.declared.Signal.{Signal}
+use Rattle.input.specs.declared.Signal.the-variants.{Level, Edge}
+use Rattle.input.specs.Input.{signalled}
+use Rattle.history.specs.History.{Call, isSetup, called}
+use Rattle.waiting.specs.Waiting.{pends, meets, isClass, among, clearsPendingAt, lowers, pendingTaker, takesPending}
+use Rattle.waiting.proofs.Going.{Goes, call-takes}
 use Rattle.waiting.proofs.Keeping.{is-class, among-is, handedOut}
 use Rattle.waiting.proofs.PendingMoves.{met-slot, met-there}
 
--- what the three do to a record
-cleared : (r : InterruptRecord) → setPending r false .pending ≡ false
-unfolding setPending
-cleared r = refl
-
+-- what a falling line and an acknowledge do to a record
 fallen : (r : InterruptRecord) (asserted : Bool) → fallsIdle r asserted ≡ true → setLevel r asserted .pending ≡ false
 unfolding setLevel
 fallen r true e = absurd (false≢true e)
@@ -67,41 +62,50 @@ module _ (shape : Shape) (n : ℕ) (past : 16 ≤ n) (s : List ℕ) (h : Control
   word-clears first value i at inside is set =
       subst (λ (m : ℕ). pends shape u m (writeBits shape Icpendr u first value s) ≡ false) is
       (ap (λ (r : InterruptRecord). r .pending) (record-written shape Icpendr u first value s at i inside (rw is (there .numbered)))
-      ∙ simp (set, le-ltb (first + i) 16 (rw is past)) (cleared (recordAt shape u (first + i) s)))
+      ∙ simp (set, le-ltb (first + i) 16 (rw is past)) (left-cleared (recordAt shape u (first + i) s)))
 
-  written : (offset : ℕ) (width : AccessWidth) (value : ℕ) (a : DistributorAccess) → locateDistributor offset width ≡ a
-      → clearsPendingAt n a (value % 2 ^ 32) ≡ true → pends shape u n (called (WriteDistributor u offset width value) s .state) ≡ false
-  written offset width value (distributor.Refused r) p e = absurd (false≢true e)
-  written offset width value distributor.PrivateWidth p e = absurd (false≢true e)
-  written offset width value (distributor.At place) p e =
-      let first : ℕ = place .first .0 in
-      let x : ℕ = value % 2 ^ 32 in
-      let field : Bool = eqb (fieldAt 1 (n - first) x) 1 in
-      let front = left-true (isClass (Bits Icpendr) (place .class) && among n first 32) field e in
-      let is = is-class (Bits Icpendr) (place .class) (left-true (isClass (Bits Icpendr) (place .class)) (among n first 32) front) in
-      let run = among-is n first 32 (right-true (isClass (Bits Icpendr) (place .class)) (among n first 32) front) in
-      let room = h .lawful .in-range .state in
-      let located : Located place width = record { offset = offset; at = p } in
-      let looked : place .private ≡ true → u < shape .count = λ q. there .banked (omega (arith, private-word shape u place width s room located Icpendr is q, run .0, run .1)) in
-      rw (write-call shape s h u offset width value place p (λ q. looked (rw is at q)), is)
-      (word-clears first x (n - first) (bit-word shape u place width s room located Icpendr is looked) (run .1) (run .0) (right-true (isClass (Bits Icpendr) (place .class) && among n first 32) field e))
+  module _ (place : Place) (width : AccessWidth) (value : ℕ) (clears : clearsPendingAt n (distributor.At place) value ≡ true) (located : Located place width) where
+    abbrev first : ℕ
+    first = place .first .0
+
+    abbrev field : Bool
+    field = eqb (fieldAt 1 (n - first) value) 1
+
+    front : (isClass (Bits Icpendr) (place .class) && among n first 32) ≡ true
+    front = left-true (isClass (Bits Icpendr) (place .class) && among n first 32) field clears
+
+    is : place .class ≡ Bits Icpendr
+    is = is-class (Bits Icpendr) (place .class) (left-true (isClass (Bits Icpendr) (place .class)) (among n first 32) front)
+
+    inside : (first + (n - first) ≡ n) × (n - first < 32)
+    inside = among-is n first 32 (right-true (isClass (Bits Icpendr) (place .class)) (among n first 32) front)
+
+    own-private : place .private ≡ true → u < shape .count
+    own-private q = there .banked (omega (arith, private-word shape u place width s (h .lawful .in-range .state) located Icpendr is q, inside .0, inside .1))
+
+    write-found : writePlaceLooksUp (place .class) (place .private) value ≡ true → u < shape .count
+    write-found q = own-private (rw is at q)
+
+    write-takes : pends shape u n (writePlace shape u place width value s) ≡ false
+    write-takes =
+        rw is
+        (word-clears first value (n - first) (bit-word shape u place width s (h .lawful .in-range .state) located Icpendr is own-private) (inside .1) (inside .0)
+        (right-true (isClass (Bits Icpendr) (place .class) && among n first 32) field clears))
 
   -- a line that falls
-  levelled : (asserted : Bool) → fallsIdle (recordAt shape u n s) asserted ≡ true → pends shape u n (called (SetLevel u n asserted) s .state) ≡ false
-  levelled asserted e =
-      rw (input-call shape s h u (Level asserted) n there past)
-      (ap (λ (r : InterruptRecord). r .pending) (changed-record shape s (h .lawful) u n (moves.SetLevel asserted) (record { there = there; fits = past })) ∙ fallen (recordAt shape u n s) asserted e)
+  signal-takes : (signal : Signal) → lowers signal (recordAt shape u n s) ≡ true → pends shape u n (changed shape u n (signalled signal) s) ≡ false
+  signal-takes (Level asserted) e =
+      ap (λ (r : InterruptRecord). r .pending) (changed-record shape s (h .lawful) u n (moves.SetLevel asserted) (record { there = there; fits = past })) ∙ fallen (recordAt shape u n s) asserted e
+  signal-takes Edge e = absurd (false≢true e)
 
   -- IAR: what is given is not active, so nothing is noted of it
-  given-takes : (e : Entry) → Giving shape u e s → handedOut shape u e s ≡ n → pends shape u n (given shape u e s) ≡ false
-  unfolding candidate
+  given-takes : (e : Candidate) → Giving shape u e s → handedOut shape u e s ≡ n → pends shape u n (given shape u e s) ≡ false
   given-takes e o answers =
       let m : ℕ = e .intid .0 in
       let r = recordAt shape u m s in
       let number : m ≡ n = omega (arith, answers, there .numbered, h .lawful .in-range .state .limits .few-numbers) in
       let best = best-is shape u s e (offer-is shape u s e (o .offered) .best-one) in
-      let waits : Bool = offered u m r && r .enabled && r .pending in
-      let idle : r .active ≡ false = not-true (r .active) (right-true waits (not (r .active)) (left-true (waits && not (r .active)) (ltb (r .priority .0) (interfaceAt shape u PriorityMask s)) (best .chosen))) in
+      let idle = candidate-idle shape u s m (best .chosen) in
       subst (λ (k : ℕ). pends shape u k (given shape u e s) ≡ false) number
       (ap (λ (x : InterruptRecord). x .pending) (given-record shape u e s (givable shape s (lawful-sound (h .lawful)) u e o) (rw number past))
       ∙ handed u r ∙ unnoted r (h .lawful .orderly .records u m (record { numbered = best .below; banked = λ low. o .exists })) idle)
@@ -118,26 +122,29 @@ module _ (shape : Shape) (v n : ℕ) (there : RecordThere shape v n) (past : 16 
   for-all : (u : ℕ) (after : List ℕ) → meets v n u ≡ true → pends shape u n after ≡ false → pends shape v n after ≡ false
   for-all u after meeting e = ap (λ (t : Slot). recordOf (wordAt shape t after) .pending) (met-slot v n u meeting) ∙ e
 
+  module _ (s : List ℕ) (h : Controls shape s) where
+    -- its number, and its line as the vCPU u meets it
+    signalled-here : (u m : ℕ) (signal : Signal) → meets v n u ≡ true → (eqb m n && lowers signal (recordAt shape v n s)) ≡ true → (m ≡ n) × (lowers signal (recordAt shape u n s) ≡ true)
+    signalled-here u m signal by e = (
+      eqb-true m n (left-true (eqb m n) (lowers signal (recordAt shape v n s)) e),
+      subst (λ (t : Slot). lowers signal (recordOf (wordAt shape t s)) ≡ true) (met-slot v n u by) (right-true (eqb m n) (lowers signal (recordAt shape v n s)) e),
+    )
+
+    pending-going : Goes shape s (pendingTaker shape v n s) (λ r. pends shape v n r ≡ false)
+    pending-going = record {
+      some = λ p. omega (arith, p, there .numbered, h .lawful .in-range .state .limits .few-numbers);
+      given-takes = λ u e by o answers. for-all u (given shape u e s) by (given-takes shape n past s h u (met-there v n u by there) e o answers);
+      write-found = λ u place width value by clears located. write-found shape n past s h u (met-there v n u by there) place width value clears located;
+      write-takes = λ u place width value by clears at.
+          for-all u (writePlace shape u place width value s) by (write-takes shape n past s h u (met-there v n u by there) place width value clears (at .located));
+      nowhere-refused = λ r width value. refl;
+      nowhere-private = λ width value. refl;
+      no-pulse = λ m. and-false (eqb m n);
+      signal-found = λ u m signal by e. let number = signalled-here u m signal by e .0 in (rw number (met-there v n u by there), rw number past);
+      signal-takes = λ u m signal by e.
+          let here = signalled-here u m signal by e in
+          for-all u (changed shape u m (signalled signal) s) by (rw (here .0) (signal-takes shape n past s h u (met-there v n u by there) signal (here .1)));
+    }
+
   pub pending-goes : (c : Call) (s : List ℕ) → Controls shape s → isSetup c ≡ false → takesPending shape v n s c (called c s) ≡ true → pends shape v n (called c s .state) ≡ false
-  pending-goes (Setup count limit) s h other e = absurd (true≢false other)
-  pending-goes (ReadDistributor u offset width) s h other e = absurd (false≢true e)
-  pending-goes (WriteDistributor u offset width value) s h other e =
-      let clears : Bool = clearsPendingAt n (locateDistributor offset width) (value % 2 ^ 32) in
-      let meeting = left-true (meets v n u) clears e in
-      for-all u (called (WriteDistributor u offset width value) s .state) meeting
-      (written shape n past s h u (met-there v n u meeting there) offset width value (locateDistributor offset width) refl (right-true (meets v n u) clears e))
-  pending-goes (ReadCpuInterface u offset width) s h other e =
-      let after = called (ReadCpuInterface u offset width) s in
-      let answers : Bool = gives n (locateCpuInterface offset width) after in
-      let meeting = left-true (meets v n u) answers e in
-      let out = hands-out shape s h u n (λ p. omega (arith, p, there .numbered, h .lawful .in-range .state .limits .few-numbers)) offset width (right-true (meets v n u) answers e) in
-      for-all u (after .state) meeting (rw (out .leaves) (given-takes shape n past s h u (met-there v n u meeting there) (out .entry) (out .giving) (out .answers)))
-  pending-goes (WriteCpuInterface u offset width value) s h other e = absurd (false≢true e)
-  pending-goes (SetLevel u m asserted) s h other e =
-      let falls : Bool = fallsIdle (recordAt shape v n s) asserted in
-      let front = left-true (meets v n u && eqb m n) falls e in
-      let meeting = left-true (meets v n u) (eqb m n) front in
-      let number : m ≡ n = eqb-true m n (right-true (meets v n u) (eqb m n) front) in
-      let own = subst (λ (t : Slot). fallsIdle (recordOf (wordAt shape t s)) asserted ≡ true) (met-slot v n u meeting) (right-true (meets v n u && eqb m n) falls e) in
-      for-all u (called (SetLevel u m asserted) s .state) meeting (rw number (levelled shape n past s h u (met-there v n u meeting there) asserted own))
-  pending-goes (Pulse u m) s h other e = absurd (false≢true e)
+  pending-goes c s h = call-takes (pending-going s h) h c

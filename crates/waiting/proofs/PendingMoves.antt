@@ -13,15 +13,15 @@ use Rattle.interrupt.specs.Record.{setEnabled, setPending, setActive, cancelInf
 use Rattle.word.specs.Word.{recordOf}
 use Rattle.word.proofs.Cases.{same-or}
 use Rattle.state.specs.declared.layout.Shape.{Shape}
-use Rattle.state.specs.declared.words.Entry.{Entry}
 use Rattle.state.specs.Layout.{Slot, DistributorControl, Interface, Sources}
 use Rattle.state.specs.Words.{wordAt, recordSlot, RecordThere, recordAt}
 use Rattle.state.proofs.Accessors.{record-exists, same-or-other, records-apart}
 use Rattle.state.proofs.Numbers.{Of, one-vcpu}
 use Rattle.state.proofs.SlotKinds.{record-apart}
+use Rattle.select.specs.declared.Candidate.{Candidate}
 use Rattle.end.specs.End.{retire}
 use Rattle.lawful.specs.Lawful.{Controls}
-use Rattle.moves.specs.Moves.{Change, SetEnabled, SetPending, SetActive, CancelInflight, SetTrigger, SetPriority, SetCpuTargetMask, SetLevel, Pulse, DeactivateInflight, Complete, becomes, Move, Changed, Sourced, Kept, Switched, Given, Popped, moved, Changing, Open}
+use Rattle.moves.specs.Moves.{Change, SetEnabled, SetPending, SetActive, CancelInflight, SetTrigger, SetPriority, SetCpuTargetMask, SetLevel, Pulse, DeactivateInflight, Complete, ClearDeliveryState, becomes, Move, Changed, Sourced, Kept, Switched, Given, Popped, moved, Changing, Open}
 use Rattle.moves.proofs.Controllers.{changed-record}
 use Rattle.moves.proofs.Frames.{record-off-stack}
 use Rattle.moves.proofs.Slots.{Touches, move-others}
@@ -42,6 +42,7 @@ SparesRecord (SetLevel a) r = fallsIdle r a ≡ false
 SparesRecord Pulse r = Unit
 SparesRecord DeactivateInflight r = Unit
 SparesRecord Complete r = Unit
+SparesRecord ClearDeliveryState r = ⊥
 
 -- joined with any bit, or left
 or-true : (a b : Bool) → a ≡ true → (a || b) ≡ true
@@ -65,6 +66,7 @@ pending-kept (SetLevel a) r spares now = simp spares (if-true a (r .pending) now
 pending-kept Pulse r spares now = refl
 pending-kept DeactivateInflight r spares now = rw now refl
 pending-kept Complete r spares now = if-true (held r) (r .pending) now
+pending-kept ClearDeliveryState r spares now = absurd spares
 
 module _ (v n : ℕ) where
   -- a slot that is met by another vCPU is an SPI's
@@ -99,7 +101,7 @@ abbrev pub Spares : Shape → ℕ → ℕ → Move → List ℕ → Type 0
 Spares shape v n (Changed u m c) s = recordSlot v n ≡ recordSlot u m → SparesRecord c (recordAt shape v n s)
 Spares shape v n (Sourced u m on byte) s = Unit
 Spares shape v n (Kept u k x) s = Unit
-Spares shape v n (Switched on) s = Unit
+Spares shape v n (Switched value) s = Unit
 Spares shape v n (Given u e) s = recordSlot v n ≡ recordSlot u (e .intid .0) → ⊥
 Spares shape v n (Popped u) s = Unit
 
@@ -119,17 +121,17 @@ module _ (shape : Shape) (v n : ℕ) (there : RecordThere shape v n) (no-sgi : 1
 
   sourced-apart : (u m : ℕ) → m < 16 → Of u m (recordSlot v n) → ⊥
   sourced-apart u m sgi (inl p) = records-apart v u n m (λ q. omega (arith, q, sgi, no-sgi)) p
-  sourced-apart u m sgi (inr p) = record-apart v n (Sources u m) (λ q. omega arith) p
+  sourced-apart u m sgi (inr p) = record-apart v n (Sources u m) refl p
 
-  given-apart : (u : ℕ) (e : Entry) → Spares shape v n (Given u e) s → Touches (Given u e) (recordSlot v n) → ⊥
+  given-apart : (u : ℕ) (e : Candidate) → Spares shape v n (Given u e) s → Touches (Given u e) (recordSlot v n) → ⊥
   given-apart u e spares (inl (inl p)) = spares p
-  given-apart u e spares (inl (inr p)) = record-apart v n (Sources u (e .intid .0)) (λ q. omega arith) p
+  given-apart u e spares (inl (inr p)) = record-apart v n (Sources u (e .intid .0)) refl p
   given-apart u e spares (inr p) = record-off-stack u v n p
 
   pub move-pends : (m : Move) → Open shape m s → Spares shape v n m s → pends shape v n (moved shape m s) ≡ true
   move-pends (Changed u m c) o spares = changed-kept u m c o spares
   move-pends (Sourced u m on byte) o spares = untouched (Sourced u m on byte) o (sourced-apart u m (o .sgi))
-  move-pends (Kept u k x) o spares = untouched (Kept u k x) o (record-apart v n (Interface u k) (λ q. omega arith))
-  move-pends (Switched on) o spares = untouched (Switched on) o (record-apart v n DistributorControl (λ q. omega arith))
+  move-pends (Kept u k x) o spares = untouched (Kept u k x) o (record-apart v n (Interface u k) refl)
+  move-pends (Switched value) o spares = untouched (Switched value) o (record-apart v n DistributorControl refl)
   move-pends (Given u e) o spares = untouched (Given u e) o (given-apart u e spares)
   move-pends (Popped u) o spares = untouched (Popped u) o (record-off-stack u v n)

@@ -1,15 +1,14 @@
 -- A pending PPI or SPI stays pending until it is given, or until its bit is written to ICPENDR, or until the line of a level interrupt that is
 -- not active falls, or until all starts anew. Assumes nothing.
-use mathlib.Core.Path.{_≡_, refl}
-use mathlib.Core.Bool.{Bool, true, false, not, _&&_, true≢false}
+use mathlib.Core.Path.{_≡_}
+use mathlib.Core.Bool.{true, false, not, _&&_, true≢false}
 use mathlib.Core.List.{List}
 use mathlib.Core.Logic.{_⊎_, inl, inr}
-use Prim.Native.Nat.{ℕ, _+_, _-_, _%_, _^_, _≤_, _<_}
+use Prim.Native.Nat.{ℕ, _+_, _-_, _≤_, _<_}
 use native.Mathlib.Omega.{arith}
 use lib.Dec.{eqb, ltb}
 use borrow.Author.Tests.{le-ltb, eq-eqb}
 use Rattle.interrupt.specs.declared.record.InterruptRecord.{InterruptRecord}
-use Rattle.interrupt.specs.Record.{fallsIdle}
 use Rattle.word.specs.Fields.{fieldAt}
 use Rattle.register.specs.declared.frame.AccessWidth.{AccessWidth}
 use Rattle.register.specs.declared.ranges.BitRegister.{BitRegister}
@@ -19,19 +18,19 @@ use Rattle.register.specs.declared.ranges.Class.{Class}
 use Rattle.register.specs.declared.ranges.Class.the-variants.{Ctlr, Typer, Iidr, Sgir, Bits, Bytes, Other}
 use Rattle.register.specs.declared.distributor.DistributorAccess.{DistributorAccess}
 use Rattle.register.specs.declared.distributor.DistributorAccess.the-variants as distributor
-use Rattle.register.specs.CpuInterface.{locateCpuInterface}
-use Rattle.register.specs.Distributor.{locateDistributor}
 use Rattle.state.specs.declared.layout.Shape.{Shape}
-use Rattle.state.specs.declared.words.Entry.{Entry}
 use Rattle.state.specs.Words.{recordSlot, RecordThere, recordAt}
 use Rattle.state.proofs.Tests.{left-true}
+use Rattle.select.specs.declared.Candidate.{Candidate}
 use Rattle.acknowledge.specs.Acknowledge.{sourceOf}
+use Rattle.input.specs.declared.Signal.{Signal}
+use Rattle.input.specs.declared.Signal.the-variants.{Level, Edge}
 use Rattle.lawful.specs.Lawful.{Controls}
-use Rattle.moves.specs.Moves.{Change, SetEnabled, SetPending, SetActive, CancelInflight, SetTrigger, SetPriority, SetCpuTargetMask, SetLevel, Pulse, DeactivateInflight, Complete, Move, Changed, Sourced, Kept, Switched, Given, Popped}
-use Rattle.history.specs.History.{Call, ReadCpuInterface, called, run}
-use Rattle.history.proofs.Made.{BitMade, ClassMade, PlaceMade, Ends, WriteMade}
-use Rattle.waiting.specs.Waiting.{pends, meets, gives, isClass, among, clearsPendingAt, takesPending, never}
-use Rattle.waiting.proofs.Keeping.{run-at, handedOut, handingOut, Waits, call-keeps, history-controls, history-keeps}
+use Rattle.moves.specs.Moves.{Change, SetEnabled, SetPending, SetActive, CancelInflight, SetTrigger, SetPriority, SetCpuTargetMask, SetLevel, Pulse, DeactivateInflight, Complete, ClearDeliveryState, Move, Changed, Sourced, Kept, Switched, Given, Popped}
+use Rattle.history.specs.History.{Call, called, run}
+use Rattle.history.specs.Made.{BitMade, ClassMade, PlaceMade, Ends, WriteMade, signalChange}
+use Rattle.waiting.specs.Waiting.{pends, meets, isClass, among, clearsPendingAt, lowers, pendingTaker, takesPending, never}
+use Rattle.waiting.proofs.Keeping.{run-at, handedOut, Waits, call-keeps, history-controls, history-keeps}
 use Rattle.waiting.proofs.PendingMoves.{SparesRecord, met, Spares, move-pends}
 
 module _ (shape : Shape) (v n : ℕ) (there : RecordThere shape v n) (no-sgi : 16 ≤ n) where
@@ -92,37 +91,35 @@ module _ (shape : Shape) (v n : ℕ) (there : RecordThere shape v n) (no-sgi : 1
   end-spares Pulse ends r = tt
   end-spares DeactivateInflight ends r = tt
   end-spares Complete ends r = tt
+  end-spares ClearDeliveryState ends r = absurd ends
 
   write-spares : (u : ℕ) (m : Move) → WriteMade u m → (s : List ℕ) → Spares shape v n m s
   write-spares u (Changed w k c) made s = λ p. end-spares c (made .1) (recordAt shape v n s)
   write-spares u (Sourced w k on byte) made s = tt
   write-spares u (Kept w k x) made s = tt
-  write-spares u (Switched on) made s = tt
+  write-spares u (Switched value) made s = tt
   write-spares u (Given w e) made s = absurd made
   write-spares u (Popped w) made s = tt
 
   -- a read that answers another number
-  read-spares : (s : List ℕ) (u offset : ℕ) (width : AccessWidth) (e : Entry)
-      → ((x : ℕ) → handedOut shape u e s ≡ x → gives x (locateCpuInterface offset width) (handingOut shape u e s) ≡ true)
-      → takesPending shape v n s (ReadCpuInterface u offset width) (handingOut shape u e s) ≡ false → Spares shape v n (Given u e) s
+  read-spares : (s : List ℕ) (u : ℕ) (e : Candidate) → (meets v n u && eqb (handedOut shape u e s) n) ≡ false → Spares shape v n (Given u e) s
   unfolding sourceOf
-  read-spares s u offset width e given free p =
+  read-spares s u e free p =
       let at = met v n u (e .intid .0) p in
-      true≢false (simp (at .meeting, given n (rw (at .number) (simp (le-ltb n 16 no-sgi) (omega arith)))) at free)
+      true≢false (simp (at .meeting, eq-eqb (handedOut shape u e s) n (rw (at .number) (simp (le-ltb n 16 no-sgi) (omega arith)))) at free)
 
   -- a line that does not fall, or that of an interrupt which is active or edge
-  level-spares : (s : List ℕ) (u m : ℕ) (asserted : Bool) → (meets v n u && eqb m n && fallsIdle (recordAt shape v n s) asserted) ≡ false → Spares shape v n (Changed u m (SetLevel asserted)) s
-  level-spares s u m asserted e p = simp (met v n u m p .meeting, eq-eqb m n (met v n u m p .number)) at e
+  signal-spares : (s : List ℕ) (u m : ℕ) (signal : Signal) → (meets v n u && (eqb m n && lowers signal (recordAt shape v n s))) ≡ false → Spares shape v n (Changed u m (signalChange signal)) s
+  signal-spares s u m (Level asserted) e p = simp (met v n u m p .meeting, eq-eqb m n (met v n u m p .number)) at e
+  signal-spares s u m Edge e p = tt
 
-  pending-waits : Waits shape (pends shape v n) (takesPending shape v n) (Spares shape v n)
+  pending-waits : Waits shape (pends shape v n) (pendingTaker shape v n) (Spares shape v n)
   pending-waits = record {
     kept = λ m s h o spares now. move-pends shape v n there no-sgi s h now m o spares;
-    anew = λ s count limit o. refl;
     read = read-spares;
     ended = write-spares;
-    written = λ s u offset width value e m made r. place-spares u (value % 2 ^ 32) m r (locateDistributor offset width) width e made;
-    levelled = λ s u m asserted e. level-spares s u m asserted e;
-    pulsed = λ s u m p. tt;
+    written = λ s u a width value e m made r. place-spares u value m r a width e made;
+    signalled = signal-spares;
   }
 
   pub pending-stays : (c : Call) (s : List ℕ) → Controls shape s → pends shape v n s ≡ true → takesPending shape v n s c (called c s) ≡ false → pends shape v n (called c s .state) ≡ true
@@ -133,4 +130,4 @@ module _ (shape : Shape) (v n : ℕ) (there : RecordThere shape v n) (no-sgi : 1
 
 -- .. in a controller of the same count and limit
 pub pulse-controls : (shape : Shape) (v n : ℕ) (cs : List Call) (s : List ℕ) → Controls shape s → never (takesPending shape v n) cs s ≡ true → Controls shape (run cs s)
-pulse-controls shape v n = history-controls (takesPending shape v n) (λ s count limit o. refl)
+pulse-controls shape v n = history-controls (pendingTaker shape v n)

@@ -1,25 +1,21 @@
 -- The calls that take a ring do take it: after each of them it is gone, whether it was there or not. Assumes nothing.
 use mathlib.Core.Path.{_≡_, refl, sym, ap, subst, _∙_}
-use mathlib.Core.Bool.{Bool, true, false, _&&_, true≢false, false≢true}
+use mathlib.Core.Bool.{true, false, _&&_, true≢false, false≢true}
 use mathlib.Core.List.{List}
 use mathlib.Core.Logic.{inr}
 use Prim.Native.Nat.{ℕ, _+_, _*_, _-_, _/_, _%_, _^_, _<_}
 use native.Mathlib.Omega.{arith}
 use native.Mathlib.Nat.{mod-lt, div-eq-of-lt}
-use lib.Dec.{eqb}
 use lib.Pow.{pow-lt, pow-pos}
 use borrow.Author.Tests.{lt-ltb, eqb-true, ne-eqb, eq-eqb}
 use Rattle.word.specs.Fields.{fieldAt}
 use Rattle.register.specs.declared.frame.AccessWidth.{AccessWidth}
 use Rattle.register.specs.declared.ranges.ByteRegister.the-variants.{Cpendsgir}
 use Rattle.register.specs.declared.ranges.Class.the-variants.{Bytes}
-use Rattle.register.specs.declared.distributor.DistributorAccess.{DistributorAccess}
+use Rattle.register.specs.declared.distributor.Place.{Place}
 use Rattle.register.specs.declared.distributor.DistributorAccess.the-variants as distributor
-use Rattle.register.specs.CpuInterface.{locateCpuInterface}
-use Rattle.register.specs.Distributor.{locateDistributor}
 use Rattle.register.specs.Frame.{bytes}
 use Rattle.state.specs.declared.layout.Shape.{Shape}
-use Rattle.state.specs.declared.words.Entry.{Entry}
 use Rattle.state.specs.Layout.{Sources}
 use Rattle.state.specs.Words.{sourcesAt}
 use Rattle.state.proofs.Tests.{left-true, right-true}
@@ -27,17 +23,19 @@ use Rattle.sgi.specs.Sgi.{writeSources}
 use Rattle.sgi.proofs.Rings.{written-sources}
 use Rattle.distributor.specs.Bytes.{writeBytes, BytesAt}
 use Rattle.distributor.proofs.Registers.{bytes-written}
+use Rattle.select.specs.declared.Candidate.{Candidate}
 use Rattle.acknowledge.specs.Acknowledge.{lowestSource, sourceOf, given}
 use Rattle.delivery.proofs.Given.{given-sources}
+use Rattle.places.specs.Places.{writePlace, PlaceWritten}
 use Rattle.places.proofs.Fits.{byte-run}
 use Rattle.lawful.specs.Lawful.{Controls}
 use Rattle.moves.specs.Moves.{Giving}
 use Rattle.moves.proofs.Slots.{givable}
 use Rattle.moves.proofs.Sounds.{lawful-sound}
-use Rattle.history.specs.History.{Call, Setup, ReadDistributor, WriteDistributor, ReadCpuInterface, WriteCpuInterface, SetLevel, Pulse, isSetup, called}
-use Rattle.waiting.specs.Waiting.{bit, rung, gives, isClass, among, clearsSourceAt, takesRing}
-use Rattle.waiting.proofs.Accepted.{write-call, hands-out}
+use Rattle.history.specs.History.{Call, isSetup, called}
+use Rattle.waiting.specs.Waiting.{bit, rung, isClass, among, clearsSourceAt, ringTaker, takesRing}
 use Rattle.waiting.proofs.BitLaws.{bit-gone, bit-of-power}
+use Rattle.waiting.proofs.Going.{Goes, call-takes}
 use Rattle.waiting.proofs.Keeping.{is-class, among-is, handedOut}
 
 module _ (shape : Shape) (t n u : ℕ) (exists : t < shape .count) (sgi : n < 16) (low : u < 8) where
@@ -56,22 +54,18 @@ module _ (shape : Shape) (t n u : ℕ) (exists : t < shape .count) (sgi : n < 16
         ap (λ (w : ℕ). bit u (w % 256)) (bytes-written shape Cpendsgir t first count value s at i inside .agree (Sources t (first + i)) (at .there i inside) (inr refl))
         ∙ byte-clears (fieldAt 8 i value) (first + i) (mod-lt (value / 2 ^ (8 * i)) (pow-pos 8)) (at .there i inside .1) e
 
-    written : (offset : ℕ) (width : AccessWidth) (value : ℕ) (a : DistributorAccess) → locateDistributor offset width ≡ a
-        → clearsSourceAt n u a width (value % 2 ^ 32) ≡ true → rung shape t n u (called (WriteDistributor t offset width value) s .state) ≡ false
-    written offset width value (distributor.Refused r) p e = absurd (false≢true e)
-    written offset width value distributor.PrivateWidth p e = absurd (false≢true e)
-    written offset width value (distributor.At place) p e =
+    write-takes : (place : Place) (width : AccessWidth) (value : ℕ) → clearsSourceAt n u (distributor.At place) width value ≡ true → PlaceWritten shape t place width value s
+        → rung shape t n u (writePlace shape t place width value s) ≡ false
+    write-takes place width value e written =
         let first : ℕ = place .first .0 in
-        let x : ℕ = value % 2 ^ 32 in
-        let front = left-true (isClass (Bytes Cpendsgir) (place .class) && among n first (bytes width)) (bit u (fieldAt 8 (n - first) x)) e in
-        let set = right-true (isClass (Bytes Cpendsgir) (place .class) && among n first (bytes width)) (bit u (fieldAt 8 (n - first) x)) e in
+        let front = left-true (isClass (Bytes Cpendsgir) (place .class) && among n first (bytes width)) (bit u (fieldAt 8 (n - first) value)) e in
+        let set = right-true (isClass (Bytes Cpendsgir) (place .class) && among n first (bytes width)) (bit u (fieldAt 8 (n - first) value)) e in
         let is = is-class (Bytes Cpendsgir) (place .class) (left-true (isClass (Bytes Cpendsgir) (place .class)) (among n first (bytes width)) front) in
         let run = among-is n first (bytes width) (right-true (isClass (Bytes Cpendsgir) (place .class)) (among n first (bytes width)) front) in
-        let at = byte-run shape t place width s (h .lawful .in-range .state) (record { offset = offset; at = p }) Cpendsgir is (λ q. exists) in
-        rw (write-call shape s h t offset width value place p (λ q. exists), is)
-        (subst (λ (m : ℕ). rung shape t m u (writeBytes shape Cpendsgir t first (bytes width) x s) ≡ false) (run .0) (run-clears first (bytes width) x (n - first) at (run .1) set))
+        let at = byte-run shape t place width s (written .state) (written .located) Cpendsgir is (λ q. exists) in
+        rw is (subst (λ (m : ℕ). rung shape t m u (writeBytes shape Cpendsgir t first (bytes width) value s) ≡ false) (run .0) (run-clears first (bytes width) value (n - first) at (run .1) set))
 
-    given-takes : (e : Entry) → Giving shape t e s → handedOut shape t e s ≡ n + 1024 * u → rung shape t n u (given shape t e s) ≡ false
+    given-takes : (e : Candidate) → Giving shape t e s → handedOut shape t e s ≡ n + 1024 * u → rung shape t n u (given shape t e s) ≡ false
     unfolding sourceOf
     given-takes e o answers =
         let below = givable shape s (lawful-sound (h .lawful)) t e o .numbered in
@@ -84,20 +78,18 @@ module _ (shape : Shape) (t n u : ℕ) (exists : t < shape .count) (sgi : n < 16
         (rw (given-sources shape t e s (givable shape s (lawful-sound (h .lawful)) t e o) small, lowest)
         (bit-gone u (sourcesAt shape t (e .intid .0) s) (2 ^ u) low (pow-lt low) (bit-of-power u u low low ∙ eq-eqb u u refl)))
 
+    ring-going : Goes shape s (ringTaker t n u) (λ r. rung shape t n u r ≡ false)
+    ring-going = record {
+      some = λ p. omega (arith, p, sgi);
+      given-takes = λ v e by o answers. let is = eqb-true v t by in rw is (given-takes e (rw is at o) (rw is at answers));
+      write-found = λ v place width value by clears located q. rw (eqb-true v t by) exists;
+      write-takes = λ v place width value by clears written. let is = eqb-true v t by in rw is (write-takes place width value clears (rw is at written));
+      nowhere-refused = λ r width value. refl;
+      nowhere-private = λ width value. refl;
+      no-pulse = λ m. refl;
+      signal-found = λ v m signal by takes. absurd (false≢true takes);
+      signal-takes = λ v m signal by takes. absurd (false≢true takes);
+    }
+
   pub ring-goes : (c : Call) (s : List ℕ) → Controls shape s → isSetup c ≡ false → takesRing t n u c (called c s) ≡ true → rung shape t n u (called c s .state) ≡ false
-  ring-goes (Setup count limit) s h other e = absurd (true≢false other)
-  ring-goes (ReadDistributor v offset width) s h other e = absurd (false≢true e)
-  ring-goes (WriteDistributor v offset width value) s h other e =
-      let clears : Bool = clearsSourceAt n u (locateDistributor offset width) width (value % 2 ^ 32) in
-      subst (λ (w : ℕ). rung shape t n u (called (WriteDistributor w offset width value) s .state) ≡ false) (sym (eqb-true v t (left-true (eqb v t) clears e)))
-      (written s h offset width value (locateDistributor offset width) refl (right-true (eqb v t) clears e))
-  ring-goes (ReadCpuInterface v offset width) s h other e =
-      let handed : Bool = gives (n + 1024 * u) (locateCpuInterface offset width) (called (ReadCpuInterface v offset width) s) in
-      let out = hands-out shape s h v (n + 1024 * u) (λ p. omega (arith, p, sgi)) offset width (right-true (eqb v t) handed e) in
-      rw (out .leaves) (taken v (eqb-true v t (left-true (eqb v t) handed e)) (out .entry) (out .giving) (out .answers))
-    where
-      taken : (w : ℕ) → w ≡ t → (d : Entry) → Giving shape w d s → handedOut shape w d s ≡ n + 1024 * u → rung shape t n u (given shape w d s) ≡ false
-      taken w p d o answers = rw p (given-takes s h d (rw p at o) (rw p at answers))
-  ring-goes (WriteCpuInterface v offset width value) s h other e = absurd (false≢true e)
-  ring-goes (SetLevel v m asserted) s h other e = absurd (false≢true e)
-  ring-goes (Pulse v m) s h other e = absurd (false≢true e)
+  ring-goes c s h = call-takes (ring-going s h) h c

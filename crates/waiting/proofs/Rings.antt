@@ -3,7 +3,7 @@ use mathlib.Core.Path.{_≡_, refl}
 use mathlib.Core.Bool.{Bool, true, false, _&&_, true≢false}
 use mathlib.Core.List.{List}
 use mathlib.Core.Logic.{inl, inr}
-use Prim.Native.Nat.{ℕ, _+_, _*_, _-_, _%_, _^_, _<_}
+use Prim.Native.Nat.{ℕ, _+_, _*_, _-_, _<_}
 use native.Mathlib.Omega.{arith}
 use lib.Dec.{eqb}
 use borrow.Author.Tests.{lt-ltb, eq-eqb}
@@ -15,28 +15,26 @@ use Rattle.register.specs.declared.ranges.Class.{Class}
 use Rattle.register.specs.declared.ranges.Class.the-variants.{Ctlr, Typer, Iidr, Sgir, Bits, Bytes, Other}
 use Rattle.register.specs.declared.distributor.DistributorAccess.{DistributorAccess}
 use Rattle.register.specs.declared.distributor.DistributorAccess.the-variants as distributor
-use Rattle.register.specs.CpuInterface.{locateCpuInterface}
-use Rattle.register.specs.Distributor.{locateDistributor}
 use Rattle.register.specs.Frame.{bytes}
 use Rattle.state.specs.declared.layout.Shape.{Shape}
-use Rattle.state.specs.declared.words.Entry.{Entry}
 use Rattle.state.specs.Layout.{DistributorControl, Interface, Sources}
 use Rattle.state.specs.Words.{sourcesAt}
 use Rattle.state.proofs.Numbers.{Of}
 use Rattle.state.proofs.SlotKinds.{kinds-apart, apart-record}
 use Rattle.sgi.specs.Sgi.{mergedSources}
+use Rattle.select.specs.declared.Candidate.{Candidate}
 use Rattle.acknowledge.specs.Acknowledge.{lowestSource, sourceOf}
 use Rattle.delivery.proofs.Given.{given-sources}
 use Rattle.lawful.specs.Lawful.{Controls}
 use Rattle.moves.specs.Moves.{Move, Changed, Sourced, Kept, Switched, Given, Popped, moved, Open, Sourcing, Giving}
 use Rattle.moves.proofs.Controllers.{sourced-sources}
-use Rattle.moves.proofs.Slots.{Touches, givable, move-others}
+use Rattle.moves.proofs.Slots.{off-stack, Touches, givable, move-others}
 use Rattle.moves.proofs.Sounds.{lawful-sound}
-use Rattle.history.specs.History.{Call, ReadCpuInterface, called, run}
-use Rattle.history.proofs.Made.{ClassMade, PlaceMade, WriteMade}
-use Rattle.waiting.specs.Waiting.{bit, rung, gives, isClass, among, clearsSourceAt, takesRing, never}
+use Rattle.history.specs.History.{Call, called, run}
+use Rattle.history.specs.Made.{ClassMade, PlaceMade, WriteMade}
+use Rattle.waiting.specs.Waiting.{bit, rung, isClass, among, clearsSourceAt, ringTaker, takesRing, never}
 use Rattle.waiting.proofs.BitLaws.{bit-below, bit-or, bit-cleared, bit-left}
-use Rattle.waiting.proofs.Keeping.{run-at, handedOut, handingOut, Waits, call-keeps, history-controls, history-keeps}
+use Rattle.waiting.proofs.Keeping.{run-at, handedOut, Waits, call-keeps, history-controls, history-keeps}
 
 module _ (shape : Shape) (t n u : ℕ) (exists : t < shape .count) (sgi : n < 16) where
   -- a move that leaves the ring: it clears no bit of it, and gives no SGI with it
@@ -45,7 +43,7 @@ module _ (shape : Shape) (t n u : ℕ) (exists : t < shape .count) (sgi : n < 16
   Spares (Sourced v m true byte) s = Unit
   Spares (Sourced v m false byte) s = v ≡ t → m ≡ n → bit u byte ≡ false
   Spares (Kept v k x) s = Unit
-  Spares (Switched on) s = Unit
+  Spares (Switched value) s = Unit
   Spares (Given v e) s = v ≡ t → e .intid .0 ≡ n → lowestSource (sourcesAt shape t n s) ≡ u → ⊥
   Spares (Popped v) s = Unit
 
@@ -55,7 +53,7 @@ module _ (shape : Shape) (t n u : ℕ) (exists : t < shape .count) (sgi : n < 16
 
     -- another SGI, or another vCPU's
     apart : (v m : ℕ) → ((v ≡ t) × (m ≡ n) → ⊥) → Of v m (Sources t n) → ⊥
-    apart v m away (inl p) = apart-record (Sources t n) v m (λ q. omega arith) p
+    apart v m away (inl p) = apart-record (Sources t n) v m refl p
     apart v m away (inr p) = away (cc, cc)
 
     own-or-other : (v m : ℕ) (r : List ℕ) → (v ≡ t → m ≡ n → rung shape v m u r ≡ true) → (((v ≡ t) × (m ≡ n) → ⊥) → rung shape t n u r ≡ true) → rung shape t n u r ≡ true
@@ -75,7 +73,7 @@ module _ (shape : Shape) (t n u : ℕ) (exists : t < shape .count) (sgi : n < 16
         (λ p q. rw (sourced-sources shape s (h .lawful) v m on byte o) (merged v m on byte (o .fits) p q spares))
         (λ away. untouched (Sourced v m on byte) o (apart v m away))
 
-    given-kept : (v : ℕ) (e : Entry) → Giving shape v e s → Spares (Given v e) s → rung shape t n u (moved shape (Given v e) s) ≡ true
+    given-kept : (v : ℕ) (e : Candidate) → Giving shape v e s → Spares (Given v e) s → rung shape t n u (moved shape (Given v e) s) ≡ true
     given-kept v e o spares =
         own-or-other v (e .intid .0) (moved shape (Given v e) s)
         (λ p q. rw (given-sources shape v e s (givable shape s (lawful-sound (h .lawful)) v e o) (rw q sgi)) (bit-left (sourcesAt shape v (e .intid .0) s) u (omega arith) (same v (e .intid .0) p q) (λ x. spares p q (rw (← p, ← q) x))))
@@ -83,15 +81,15 @@ module _ (shape : Shape) (t n u : ℕ) (exists : t < shape .count) (sgi : n < 16
       where
         off : ((v ≡ t) × (e .intid .0 ≡ n) → ⊥) → Touches (Given v e) (Sources t n) → ⊥
         off away (inl p) = apart v (e .intid .0) away p
-        off away (inr p) = p
+        off away (inr p) = off-stack v (Sources t n) refl p
 
     ring-kept : (m : Move) → Open shape m s → Spares m s → rung shape t n u (moved shape m s) ≡ true
-    ring-kept (Changed v m c) o spares = untouched (Changed v m c) o (apart-record (Sources t n) v m (λ q. omega arith))
+    ring-kept (Changed v m c) o spares = untouched (Changed v m c) o (apart-record (Sources t n) v m refl)
     ring-kept (Sourced v m on byte) o spares = sourced-kept v m on byte o spares
-    ring-kept (Kept v k x) o spares = untouched (Kept v k x) o (kinds-apart (Sources t n) (Interface v k) (λ q. omega arith))
-    ring-kept (Switched on) o spares = untouched (Switched on) o (kinds-apart (Sources t n) DistributorControl (λ q. omega arith))
+    ring-kept (Kept v k x) o spares = untouched (Kept v k x) o (kinds-apart (Sources t n) (Interface v k) refl)
+    ring-kept (Switched value) o spares = untouched (Switched value) o (kinds-apart (Sources t n) DistributorControl refl)
     ring-kept (Given v e) o spares = given-kept v e o spares
-    ring-kept (Popped v) o spares = untouched (Popped v) o (λ p. p)
+    ring-kept (Popped v) o spares = untouched (Popped v) o (off-stack v (Sources t n) refl)
 
   -- a write to the Distributor: only CPENDSGIR clears, in the bytes that it writes, where they have a 1
   module _ (v : ℕ) (width : AccessWidth) (value : ℕ) (m : Move) (s : List ℕ) where
@@ -124,27 +122,23 @@ module _ (shape : Shape) (t n u : ℕ) (exists : t < shape .count) (sgi : n < 16
   write-spares v (Changed w k c) made s = tt
   write-spares v (Sourced w k on byte) made s = absurd made
   write-spares v (Kept w k x) made s = tt
-  write-spares v (Switched on) made s = tt
+  write-spares v (Switched value) made s = tt
   write-spares v (Given w e) made s = absurd made
   write-spares v (Popped w) made s = tt
 
   -- a read that answers another number, or this one with another source
-  read-spares : (s : List ℕ) (v offset : ℕ) (width : AccessWidth) (e : Entry)
-      → ((x : ℕ) → handedOut shape v e s ≡ x → gives x (locateCpuInterface offset width) (handingOut shape v e s) ≡ true)
-      → takesRing t n u (ReadCpuInterface v offset width) (handingOut shape v e s) ≡ false → Spares (Given v e) s
+  read-spares : (s : List ℕ) (v : ℕ) (e : Candidate) → (eqb v t && eqb (handedOut shape v e s) (n + 1024 * u)) ≡ false → Spares (Given v e) s
   unfolding sourceOf
-  read-spares s v offset width e given free p q lowest =
-      true≢false (simp (eq-eqb v t p, given (n + 1024 * u) (rw (p, q) (simp (lt-ltb n 16 sgi, lowest) refl))) at free)
+  read-spares s v e free p q lowest =
+      true≢false (simp (eq-eqb v t p, eq-eqb (handedOut shape v e s) (n + 1024 * u) (rw (p, q) (simp (lt-ltb n 16 sgi, lowest) refl))) at free)
 
-  ring-waits : Waits shape (rung shape t n u) (λ r. takesRing t n u) Spares
+  ring-waits : Waits shape (rung shape t n u) (λ r. ringTaker t n u) Spares
   ring-waits = record {
     kept = λ m s h o spares now. ring-kept s h now m o spares;
-    anew = λ s count limit o. refl;
     read = read-spares;
     ended = write-spares;
-    written = λ s v offset width value e m made r. place-spares v width (value % 2 ^ 32) m r (locateDistributor offset width) e made;
-    levelled = λ s v m asserted e. tt;
-    pulsed = λ s v m. tt;
+    written = λ s v a width value e m made r. place-spares v width value m r a e made;
+    signalled = λ s v m signal e. tt;
   }
 
   pub ring-stays : (c : Call) (s : List ℕ) → Controls shape s → rung shape t n u s ≡ true → takesRing t n u c (called c s) ≡ false → rung shape t n u (called c s .state) ≡ true
@@ -155,4 +149,4 @@ module _ (shape : Shape) (t n u : ℕ) (exists : t < shape .count) (sgi : n < 16
 
 -- .. in a controller of the same count and limit
 pub ring-controls : (shape : Shape) (t n u : ℕ) (cs : List Call) (s : List ℕ) → Controls shape s → never (λ r. takesRing t n u) cs s ≡ true → Controls shape (run cs s)
-ring-controls shape t n u = history-controls (λ r. takesRing t n u) (λ s count limit o. refl)
+ring-controls shape t n u = history-controls (λ r. ringTaker t n u)

@@ -5,6 +5,7 @@ use mathlib.Core.Bool.{Bool, true, false, not, _&&_, _||_}
 use mathlib.Core.List.{List, [], _∷_}
 use Prim.Native.Nat.{ℕ, _+_, _*_, _-_, _/_, _%_, _^_}
 use lib.Dec.{eqb, leb, ltb}
+use Rattle.interrupt.specs.declared.record.InterruptRecord.{InterruptRecord}
 use Rattle.interrupt.specs.Types.{isPrivateId}
 use Rattle.interrupt.specs.Record.{fallsIdle}
 use Rattle.register.specs.declared.frame.AccessWidth.{AccessWidth}
@@ -16,8 +17,6 @@ use Rattle.register.specs.declared.distributor.DistributorAccess.{DistributorAc
 use Rattle.register.specs.declared.distributor.DistributorAccess.the-variants as distributor
 use Rattle.register.specs.declared.«cpu_interface».CpuInterfaceAccess.{CpuInterfaceAccess}
 use Rattle.register.specs.declared.«cpu_interface».CpuInterfaceAccess.the-variants as interface
-use Rattle.register.specs.CpuInterface.{locateCpuInterface}
-use Rattle.register.specs.Distributor.{locateDistributor}
 use Rattle.register.specs.Frame.{bytes}
 use Rattle.register.specs.Ranges.{classNumber}
 use Rattle.word.specs.Fields.{fieldAt}
@@ -25,7 +24,9 @@ use Rattle.state.specs.declared.layout.Shape.{Shape}
 use Rattle.state.specs.Words.{recordAt, sourcesAt}
 use Rattle.cpu_interface.specs.CpuInterface.{acknowledging}
 use Rattle.answer.specs.Answer.{Outcome}
-use Rattle.history.specs.History.{Call, Setup, ReadDistributor, WriteDistributor, ReadCpuInterface, WriteCpuInterface, SetLevel, Pulse, called}
+use Rattle.input.specs.declared.Signal.{Signal}
+use Rattle.input.specs.declared.Signal.the-variants.{Level, Edge}
+use Rattle.history.specs.History.{Call, Looks, ReadsRegister, WritesRegister, WritesPlace, Signals, Deed, Starts, Acts, deed, called}
 
 -- bit u of x
 abbrev pub bit : ℕ → ℕ → Bool
@@ -69,26 +70,46 @@ clearsPendingAt n (distributor.Refused r) value = false
 clearsPendingAt n distributor.PrivateWidth value = false
 clearsPendingAt n (distributor.At place) value = isClass (Bits Icpendr) (place .class) && among n (place .first .0) 32 && eqb (fieldAt 1 (n - place .first .0) value) 1
 
+-- the line of a level interrupt that is not active falls
+abbrev pub lowers : Signal → InterruptRecord → Bool
+lowers (Level asserted) r = fallsIdle r asserted
+lowers Edge r = false
+
+-- What takes a thing that waits, beside all starting anew: of a vCPU that can take it, which answer of an acknowledge and which write to the
+-- Distributor; which signal at which number.
+pub record Taker : Type 0 where
+  pub by : ℕ → Bool
+  pub answer : ℕ
+  pub write : DistributorAccess → AccessWidth → ℕ → Bool
+  pub signal : ℕ → Signal → Bool
+
+abbrev pub takenBy : Taker → Deed → Outcome → Bool
+takenBy k (Starts count limit) o = eqb (o .refusal) 0
+takenBy k (Acts (Looks by)) o = false
+takenBy k (Acts (ReadsRegister v a)) o = k .by v && gives (k .answer) a o
+takenBy k (Acts (WritesRegister v a value)) o = false
+takenBy k (Acts (WritesPlace v a width value)) o = k .by v && k .write a width value
+takenBy k (Acts (Signals v m signal)) o = k .by v && k .signal m signal
+
 -- a ring of u is taken from the SGI n at t: all starts anew, it is given, or t clears it
+abbrev pub ringTaker : ℕ → ℕ → ℕ → Taker
+ringTaker t n u = record { by = λ v. eqb v t; answer = n + 1024 * u; write = clearsSourceAt n u; signal = λ m signal. false }
+
 abbrev pub takesRing : ℕ → ℕ → ℕ → Call → Outcome → Bool
-takesRing t n u (Setup count limit) o = eqb (o .refusal) 0
-takesRing t n u (ReadDistributor v offset width) o = false
-takesRing t n u (WriteDistributor v offset width value) o = eqb v t && clearsSourceAt n u (locateDistributor offset width) width (value % 2 ^ 32)
-takesRing t n u (ReadCpuInterface v offset width) o = eqb v t && gives (n + 1024 * u) (locateCpuInterface offset width) o
-takesRing t n u (WriteCpuInterface v offset width value) o = false
-takesRing t n u (SetLevel v m asserted) o = false
-takesRing t n u (Pulse v m) o = false
+takesRing t n u c o = takenBy (ringTaker t n u) (deed c) o
 
 -- a pending PPI or SPI is taken: all starts anew, it is given, its bit is written to ICPENDR, or the line of a level interrupt that is not active
 -- falls
+abbrev pub pendingTaker : Shape → ℕ → ℕ → List ℕ → Taker
+pendingTaker shape v n s = record {
+  by = meets v n;
+  answer = n;
+  write = λ a width value. clearsPendingAt n a value;
+  signal = λ m signal. eqb m n && lowers signal (recordAt shape v n s);
+}
+
 abbrev pub takesPending : Shape → ℕ → ℕ → List ℕ → Call → Outcome → Bool
-takesPending shape v n s (Setup count limit) o = eqb (o .refusal) 0
-takesPending shape v n s (ReadDistributor u offset width) o = false
-takesPending shape v n s (WriteDistributor u offset width value) o = meets v n u && clearsPendingAt n (locateDistributor offset width) (value % 2 ^ 32)
-takesPending shape v n s (ReadCpuInterface u offset width) o = meets v n u && gives n (locateCpuInterface offset width) o
-takesPending shape v n s (WriteCpuInterface u offset width value) o = false
-takesPending shape v n s (SetLevel u m asserted) o = meets v n u && eqb m n && fallsIdle (recordAt shape v n s) asserted
-takesPending shape v n s (Pulse u m) o = false
+takesPending shape v n s c o = takenBy (pendingTaker shape v n s) (deed c) o
 
 -- none of the calls of a history does
 abbrev pub never : (List ℕ → Call → Outcome → Bool) → List Call → List ℕ → Bool

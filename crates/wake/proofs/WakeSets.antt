@@ -6,6 +6,7 @@ use Prim.Native.Nat.{ℕ, suc, _+_, _*_, _/_, _%_, _^_, _<_}
 use native.Mathlib.Nat.{one-mul}
 use native.Mathlib.Omega.{arith}
 use lib.Dec.{eqb}
+use Rattle.interrupt.specs.Types.{everyVcpu}
 use Rattle.word.specs.Fields.{gathered}
 use Rattle.word.specs.Word.{bitOf}
 use Rattle.word.proofs.Gathered.{gathered-field, gathered-fits, gathered-same}
@@ -25,19 +26,19 @@ pub bits-fit : (answer : IarAnswer) (among : ℕ) (shape : Shape) (s : List ℕ)
 unfolding gathered
 bits-fit answer among shape s v h = gathered-fits 1 (λ u. bitOf (amongAnswers answer among shape s u)) (λ u. bit-fits (amongAnswers answer among shape s u)) (suc v) 8 (omega arith)
 
--- every bit of 255 is set
-all-among : (v : ℕ) → v < 8 → eqb (255 / 2 ^ v % 2) 1 ≡ true
+-- every bit is set
+all-among : (v : ℕ) → v < 8 → eqb (everyVcpu / 2 ^ v % 2) 1 ≡ true
 unfolding everyBelow
-all-among v h = every-at (λ u. eqb (255 / 2 ^ u % 2) 1) 8 v refl h
+all-among v h = every-at (λ u. eqb (everyVcpu / 2 ^ u % 2) 1) 8 v refl h
 
 module _ (shape : Shape) (l : Limits shape) where
   -- the bit of a vCPU among the quiet ones
   pub quiet-bit : (s : List ℕ) (v : ℕ) → v < shape .count → eqb (quietSet shape s / 2 ^ v % 2) 1 ≡ answersSo Spurious shape s v
   unfolding answeringAmong
   quiet-bit s v h =
-      let f : ℕ → ℕ = λ u. bitOf (amongAnswers Spurious 255 shape s u) in
-      let at : gathered 1 f (shape .count) / 2 ^ v % 2 ≡ f v = rw one-mul at (gathered-field 1 f (λ u. bit-fits (amongAnswers Spurious 255 shape s u)) (shape .count) v h) in
-      ap (λ (x : ℕ). eqb x 1) at ∙ bit-back (amongAnswers Spurious 255 shape s v) ∙ ap (λ (b : Bool). b && answersSo Spurious shape s v) (all-among v (omega arith))
+      let f : ℕ → ℕ = λ u. bitOf (amongAnswers Spurious everyVcpu shape s u) in
+      let at : gathered 1 f (shape .count) / 2 ^ v % 2 ≡ f v = rw one-mul at (gathered-field 1 f (λ u. bit-fits (amongAnswers Spurious everyVcpu shape s u)) (shape .count) v h) in
+      ap (λ (x : ℕ). eqb x 1) at ∙ bit-back (amongAnswers Spurious everyVcpu shape s v) ∙ ap (λ (b : Bool). b && answersSo Spurious shape s v) (all-among v (omega arith))
 
   -- before and after together
   pub wake-from : (before after : List ℕ) → wakeFrom (quietSet shape before) shape after ≡ wakeSet shape before after

@@ -9,6 +9,7 @@ use interrupt::GicVcpuId;
 use select::Selected;
 use service::depth;
 use state::Shape;
+use state::layout::STACK_CAPACITY;
 use targets::vcpu_bit;
 
 // What an IAR read would answer; one that 7 would refuse answers neither.
@@ -38,7 +39,7 @@ fn answers_so(words: &[u32], shape: Shape, vcpu: GicVcpuId, answer: IarAnswer) -
     let some = ready(words, shape, vcpu);
     match answer {
         IarAnswer::Spurious => !some,
-        IarAnswer::Number => some & (depth(words, shape, vcpu) < 255),
+        IarAnswer::Number => some & (depth(words, shape, vcpu) < STACK_CAPACITY),
     }
 }
 

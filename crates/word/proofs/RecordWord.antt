@@ -11,7 +11,7 @@ use borrow.Author.Tests.{eqb-true, eqb-false, ne-eqb}
 use Rattle.word.proofs.Fields.{Fit, breadth, at, place, packed-fits, field-packed, fieldsFrom, sum, packed-fields}
 use Rattle.interrupt.specs.Types.{isLevel}
 use Rattle.word.specs.Fields.{bits, field, packed}
-use Rattle.word.specs.Word.{flag, triggerOf, maskOf, ownerOf, recordOf, bitOf, isSet, maskByte, ownerByte, fieldsOf, wordOf, ownerInRange, InRange, CanonicalRecord}
+use Rattle.word.specs.Word.{flag, triggerOf, maskOf, ownerOf, recordOf, bitOf, isSet, maskByte, ownersHeld, ownerByte, fieldsOf, wordOf, ownerInRange, InRange, CanonicalRecord}
 use Rattle.interrupt.specs.declared.types.TriggerMode.{TriggerMode}
 use Rattle.interrupt.specs.declared.types.TriggerMode.the-variants.{Level, Edge}
 use Rattle.interrupt.specs.declared.record.CpuTargetMask.{CpuTargetMask}
@@ -47,8 +47,8 @@ owner-fits (Vcpu v) = omega arith
 owner-back : (o : Owner) → ownerInRange o → ownerOf (ownerByte o) ≡ o
 owner-back Nobody h = refl
 owner-back (Vcpu v) h =
-    let same : v .0 % 255 + 1 - 1 ≡ v .0 = omega arith in
-    simp (ne-eqb (v .0 % 255 + 1) 0 (λ e. omega arith), same)
+    let same : v .0 % ownersHeld + 1 - 1 ≡ v .0 = omega arith in
+    simp (ne-eqb (v .0 % ownersHeld + 1) 0 (λ e. omega arith), same)
 
 -- each part of a word, read and written again
 pub bit-again : (x : ℕ) → x < 2 → bitOf (eqb x 1) ≡ x

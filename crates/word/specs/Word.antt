@@ -55,10 +55,14 @@ abbrev pub maskByte : CpuTargetMask → ℕ
 maskByte Unset = 0
 maskByte (Mask byte) = byte
 
--- v + 1 for every v below 255; any other v stays an owner too, so that encoding asks nothing
+-- how many vCPUs a byte tells apart beside nobody
+abbrev pub ownersHeld : ℕ
+ownersHeld = 255
+
+-- v + 1 for every v below that; any other v stays an owner too, so that encoding asks nothing
 abbrev pub ownerByte : Owner → ℕ
 ownerByte Nobody = 0
-ownerByte (Vcpu v) = v .0 % 255 + 1
+ownerByte (Vcpu v) = v .0 % ownersHeld + 1
 
 -- the eight flags, and what stands above them
 abbrev pub flagsThen : InterruptRecord → List Field → List Field
@@ -82,9 +86,9 @@ wordOf r = packed (fieldsOf r)
 
 abbrev pub ownerInRange : Owner → Type 0
 ownerInRange Nobody = Unit
-ownerInRange (Vcpu v) = v .0 < 255
+ownerInRange (Vcpu v) = v .0 < ownersHeld
 
--- a record that a word can hold: what the types say, and an owner below 255 (there are at most 8 vCPUs)
+-- a record that a word can hold: what the types say, and an owner that the byte holds (there are at most 8 vCPUs)
 pub record InRange (r : InterruptRecord) : Type 0 where
   pub priority-byte : r .priority .0 < 2 ^ 8
   pub mask-byte : maskByte (r .«cpu_target_mask») < 2 ^ 8

@@ -20,6 +20,9 @@ const TARGET_MASK: u32 = 0x1_0000;
 
 const OWNER: u32 = 0x100_0000;
 
+// How many vCPUs a byte tells apart beside nobody.
+const OWNERS: usize = 255;
+
 fn trigger_of(edge: bool) -> TriggerMode
     ensures { λ r. ⌜ r ≡ triggerOf edge ⌝ }
 {
@@ -83,13 +86,13 @@ pub fn mask_byte(mask: CpuTargetMask) -> u8
     }
 }
 
-// The remainder is the number itself below 255, and lets any owner be encoded.
+// The remainder is the number itself below `OWNERS`, and lets any owner be encoded.
 fn owner_byte(owner: Owner) -> u8
     ensures { λ r. ⌜ r ≡ ownerByte owner ⌝ }
 {
     match owner {
         Owner::Nobody => 0,
-        Owner::Vcpu(vcpu) => (vcpu.0 % 255 + 1) as u8,
+        Owner::Vcpu(vcpu) => (vcpu.0 % OWNERS + 1) as u8,
     }
 }
 

@@ -16,14 +16,22 @@ same-length c = search needs
 
 returns : tie.Need-returns
 unfolding answered taken
-returns c = (simp (← c .before .before .before .before .before .depth .ensures, lt-ltb _ _ (c .before .before .before .before .if1 .taken), c .before .before .give .ensures .0), rw (← c .before .before .before .before .before .depth .ensures, lt-ltb _ _ (c .before .before .before .before .if1 .taken)) (c .before .before .give .ensures .1))
+returns c =
+    let gave = c .before .before in
+    let fits = gave .before .before in
+    let held = fits .before in
+    let room = lt-ltb _ _ (fits .if1 .taken) in
+    (simp (← held .depth .ensures, room, gave .give .ensures .0), rw (← held .depth .ensures, room) (gave .give .ensures .1))
 
 same-length-2 : tie.Need-same-length-2
 same-length-2 c = search needs
 
 returns-2 : tie.Need-returns-2
 unfolding answered taken
-returns-2 c = (simp (← c .before .depth .ensures, le-ltb _ _ (c .if1 .left)), simp (← c .before .depth .ensures, le-ltb _ _ (c .if1 .left)))
+returns-2 c =
+    let held = c .before in
+    let full = le-ltb _ _ (c .if1 .left) in
+    (simp (← held .depth .ensures, full), simp (← held .depth .ensures, full))
 
 pub accept-spec : {M : Type 1} → statement M
 accept-spec =

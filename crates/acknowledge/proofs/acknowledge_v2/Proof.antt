@@ -9,7 +9,11 @@ distributor-enabled-requires : tie.Need-distributor-enabled-requires
 distributor-enabled-requires c κs = search needs
 
 take-pending-delivery-requires : tie.Need-take-pending-delivery-requires
-take-pending-delivery-requires c κs = c .before .before .before .before .before .pre .served (sym (c .before .before .distributor-enabled .ensures) ∙ c .before .if1 .taken)
+take-pending-delivery-requires c κs =
+    let on = c .before in
+    let tested = on .before in
+    let start = tested .before .before .before in
+    start .pre .served (sym (tested .distributor-enabled .ensures) ∙ on .if1 .taken)
 
 same-length : tie.Need-same-length
 same-length c = search needs

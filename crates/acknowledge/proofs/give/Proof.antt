@@ -1,5 +1,4 @@
 -- `acknowledge::give` meets its contract. Assumes nothing.
-use mathlib.Core.Path.{_∙_}
 use Rattle.acknowledge.specs.Acknowledge.{given}
 use borrow.Author.Needs.{needs}
 use Rattle.acknowledge.proofs.give.Statement.{statement}
@@ -8,11 +7,8 @@ use Rattle.acknowledge.proofs.give.Tie as tie
 sgi-source-requires : tie.Need-sgi-source-requires
 sgi-source-requires c κs = search needs
 
-push-v2-active-requires : tie.Need-push-v2-active-requires
-push-v2-active-requires c κs = search needs
-
-mark-inflight-requires : tie.Need-mark-inflight-requires
-mark-inflight-requires c κs = search needs
+serve-requires : tie.Need-serve-requires
+serve-requires c κs = search needs
 
 take-sgi-source-requires : tie.Need-take-sgi-source-requires
 take-sgi-source-requires c κs = search needs
@@ -29,17 +25,22 @@ add-result c = search needs
 same-length : tie.Need-same-length
 same-length c = search needs
 
+-- the calls from the last to the first, each found from the one after it
 returns : tie.Need-returns
 unfolding given
-returns c = (simp (c .before .before .before .before .before .before .before .before .before .before .before .before .before .before .sgi-source .ensures .0), c .before .before .before .before .take-sgi-source .ensures ∙ simp (c .before .before .before .before .before .before .before .before .mark-inflight .ensures, c .before .before .before .before .before .before .before .before .before .before .before .before .push-v2-active .ensures, c .before .before .before .before .before .before .before .before .before .before .before .before .before .before .sgi-source .ensures .0))
+returns c =
+    let taken = c .before .before .before .before in
+    let served = taken .before .before .before .before in
+    let sourced = served .before .before in
+    let source = sourced .sgi-source .ensures .0 in
+    (simp source, simp (taken .take-sgi-source .ensures, served .serve .ensures, source))
 
 pub give-spec : {M : Type 1} → statement M
 give-spec =
     tie.close
     (tie.spec
     sgi-source-requires
-    push-v2-active-requires
-    mark-inflight-requires
+    serve-requires
     take-sgi-source-requires
     cast-result
     mul-result

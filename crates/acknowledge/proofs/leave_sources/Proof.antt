@@ -18,8 +18,13 @@ same-length c = search needs
 returns : tie.Need-returns
 unfolding pendIfLeft
 returns c =
-    let a = c .before .before .before .before .before .before .before .before .before .before .args in
-    rw (sources-same (a .shape) (a .words .now) (a .vcpu .0) (a .sgi .0) (a .sources) (c .before .before .before .before .before .before .before .before .before .before .pre .state) (c .before .before .before .before .before .before .before .before .before .before .pre .exists) (c .before .before .before .before .before .before .before .before .before .before .fits .sources .fits), ne-eqb _ _ (c .before .before .before .before .if1 .taken), c .before .before .set-pending .ensures) (simp (c .before .before .before .before .before .before .before .put-sgi-sources .ensures))
+    let pended = c .before .before in
+    let some = pended .before .before in
+    let put = some .before .before .before in
+    let start = put .before .before .before in
+    let a = start .args in
+    let left = sources-same (a .shape) (a .words .now) (a .vcpu .0) (a .sgi .0) (a .sources) (start .pre .state) (start .pre .exists) (start .fits .sources .fits) in
+    rw (left, ne-eqb _ _ (some .if1 .taken), pended .set-pending .ensures) (simp (put .put-sgi-sources .ensures))
 
 same-length-2 : tie.Need-same-length-2
 same-length-2 c = search needs
@@ -27,8 +32,11 @@ same-length-2 c = search needs
 returns-2 : tie.Need-returns-2
 unfolding pendIfLeft
 returns-2 c =
-    let a = c .before .before .before .before .before .before .args in
-    rw (sources-same (a .shape) (a .words .now) (a .vcpu .0) (a .sgi .0) (a .sources) (c .before .before .before .before .before .before .pre .state) (c .before .before .before .before .before .before .pre .exists) (c .before .before .before .before .before .before .fits .sources .fits), eq-eqb _ _ (c .if1 .left)) (c .before .before .before .put-sgi-sources .ensures)
+    let put = c .before .before .before in
+    let start = put .before .before .before in
+    let a = start .args in
+    let left = sources-same (a .shape) (a .words .now) (a .vcpu .0) (a .sgi .0) (a .sources) (start .pre .state) (start .pre .exists) (start .fits .sources .fits) in
+    rw (left, eq-eqb _ _ (c .if1 .left)) (put .put-sgi-sources .ensures)
 
 pub leave-sources-spec : {M : Type 1} → statement M
 leave-sources-spec =

@@ -7,9 +7,6 @@ use Rattle.acknowledge.proofs.offer.Tie as tie
 both-enabled-requires : tie.Need-both-enabled-requires
 both-enabled-requires c κs = search needs
 
-running-priority-requires : tie.Need-running-priority-requires
-running-priority-requires c κs = search needs
-
 highest-pending-requires : tie.Need-highest-pending-requires
 highest-pending-requires c κs = search needs
 
@@ -18,7 +15,10 @@ preempting-requires c κs = search needs
 
 returns : tie.Need-returns
 unfolding offer
-returns c = simp (c .preempting .ensures, c .before .highest-pending .ensures, c .before .before .running-priority .ensures, ← c .before .before .before .before .both-enabled .ensures, c .before .before .before .if1 .taken)
+returns c =
+    let chosen = c .before in
+    let on = chosen .before in
+    simp (c .preempting .ensures, chosen .highest-pending .ensures, ← on .before .both-enabled .ensures, on .if1 .taken)
 
 returns-2 : tie.Need-returns-2
 unfolding offer
@@ -26,11 +26,4 @@ returns-2 c = simp (← c .before .both-enabled .ensures, c .if1 .left)
 
 pub offer-spec : {M : Type 1} → statement M
 offer-spec =
-    tie.close
-    (tie.spec
-    both-enabled-requires
-    running-priority-requires
-    highest-pending-requires
-    preempting-requires
-    returns
-    returns-2)
+    tie.close (tie.spec both-enabled-requires highest-pending-requires preempting-requires returns returns-2)

@@ -13,23 +13,35 @@ is-sgi-requires c κs = search needs
 
 sgi-sources-requires : tie.Need-sgi-sources-requires
 sgi-sources-requires c κs =
-    let sgi : c .before .before .before .before .args .intid .0 < 16 = ltb-true _ _ (sym (c .before .before .is-sgi .ensures) ∙ c .before .if1 .taken) in
-    record { state = search needs; exists = (c .before .before .before .before .pre .0 .there .banked (omega arith), sgi) }
+    let some = c .before in
+    let tested = some .before in
+    let start = tested .before .before in
+    let sgi : start .args .intid .0 < 16 = ltb-true _ _ (sym (tested .is-sgi .ensures) ∙ some .if1 .taken) in
+    record { state = search needs; exists = (start .pre .0 .there .banked (omega arith), sgi) }
 
 vcpu-bit-requires : tie.Need-vcpu-bit-requires
 vcpu-bit-requires c κs = search needs
 
 leave-sources-requires : tie.Need-leave-sources-requires
 leave-sources-requires c κs =
-    let sgi : c .before .before .before .before .before .before .before .args .intid .0 < 16 = ltb-true _ _ (sym (c .before .before .before .before .before .is-sgi .ensures) ∙ c .before .before .before .before .if1 .taken) in
-    record { state = search needs; exists = (c .before .before .before .before .before .before .before .pre .0 .there .banked (omega arith), sgi) }
+    let some = c .before .before .before .before in
+    let tested = some .before in
+    let start = tested .before .before in
+    let sgi : start .args .intid .0 < 16 = ltb-true _ _ (sym (tested .is-sgi .ensures) ∙ some .if1 .taken) in
+    record { state = search needs; exists = (start .pre .0 .there .banked (omega arith), sgi) }
 
 same-length : tie.Need-same-length
 same-length c = search needs
 
 returns : tie.Need-returns
 unfolding sourceTaken
-returns c = rw (sym (c .before .before .before .before .before .before .before .before .is-sgi .ensures) ∙ c .before .before .before .before .before .before .before .if1 .taken) (c .before .before .leave-sources .ensures ∙ simp (c .before .before .before .before .vcpu-bit .ensures, c .before .before .before .before .before .sgi-sources .ensures))
+returns c =
+    let left = c .before .before in
+    let bit = left .before .before in
+    let held = bit .before in
+    let some = held .before .before in
+    let sgi = sym (some .before .is-sgi .ensures) ∙ some .if1 .taken in
+    rw sgi (simp (left .leave-sources .ensures, bit .vcpu-bit .ensures, held .sgi-sources .ensures))
 
 returns-2 : tie.Need-returns-2
 unfolding sourceTaken

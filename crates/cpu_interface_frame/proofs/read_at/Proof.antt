@@ -1,6 +1,5 @@
 -- `cpu_interface_frame::read_at` meets its contract. Assumes nothing.
-use mathlib.Core.Path.{sym, _∙_}
-use Rattle.cpu_interface_frame.proofs.Passed.{interface-read, full-read}
+use Rattle.cpu_interface_frame.proofs.Passed.{read-refused, read-passed, read-answered, read-full}
 use borrow.Author.Needs.{needs}
 use Rattle.cpu_interface_frame.proofs.read_at.Statement.{statement}
 use Rattle.cpu_interface_frame.proofs.read_at.Tie as tie
@@ -18,10 +17,10 @@ same-length : tie.Need-same-length
 same-length c = search needs
 
 returns : tie.Need-returns
-returns c = simp (← c .before .before .before .distributor-enabled .ensures, ← c .before .before .read-looks-up .ensures, ← c .before .absent .ensures, c .if1 .taken)
+returns c = search read-refused
 
 read-register-requires : tie.Need-read-register-requires
-read-register-requires c κs = interface-read (c .before .before .before .before .before .before .before .args .vcpu .0) (c .before .before .before .before .before .before .before .pre) (rw (c .before .before .before .read-looks-up .ensures, c .before .before .before .before .distributor-enabled .ensures) at (sym (c .before .before .absent .ensures) ∙ c .before .if1 .left))
+read-register-requires c κs = search read-passed
 
 enum-known-value : tie.Need-enum-known-value
 enum-known-value c = search needs
@@ -36,33 +35,13 @@ same-length-2 : tie.Need-same-length-2
 same-length-2 c = search needs
 
 returns-2 : tie.Need-returns-2
-returns-2 c =
-    c .gave .ensures _
-    ∙ simp (
-      ← c .before .before .before .before .before .before .before .before .before .before .before .distributor-enabled .ensures,
-      ← c .before .before .before .before .before .before .before .before .before .before .read-looks-up .ensures,
-      ← c .before .before .before .before .before .before .before .before .before .absent .ensures,
-      c .before .before .before .before .before .before .before .before .if1 .left,
-      ← c .before .before .before .before .before .before .read-register .ensures .0,
-      c .before .before .value .given .1,
-      c .before .before .before .before .before .before .read-register .ensures .1,
-    )
+returns-2 c = search (read-answered, c .gave .ensures)
 
 same-length-3 : tie.Need-same-length-3
 same-length-3 c = search needs
 
 returns-3 : tie.Need-returns-3
-returns-3 c =
-    simp (
-      ← c .before .before .before .before .before .before .before .before .before .distributor-enabled .ensures,
-      ← c .before .before .before .before .before .before .before .before .read-looks-up .ensures,
-      ← c .before .before .before .before .before .before .before .absent .ensures,
-      c .before .before .before .before .before .before .if1 .left,
-      ← c .before .before .before .before .read-register .ensures .0,
-      c .enum-told .given .1,
-      c .before .before .before .before .read-register .ensures .1,
-      full-read (c .before .before .before .before .before .before .before .before .before .before .before .before .args .shape) (c .before .before .before .before .before .before .before .before .before .before .before .before .args .vcpu .0) (c .before .before .before .before .before .before .before .before .before .before .before .before .args .register) (c .before .before .before .before .before .before .before .before .before .before .before .before .args .words .now) (sym (c .before .before .before .before .read-register .ensures .0) ∙ c .enum-told .given .1),
-    )
+returns-3 c = search read-full
 
 pub read-at-spec : {M : Type 1} → statement M
 read-at-spec =

@@ -1,7 +1,6 @@
 -- `cpu_interface_frame::write_v2_cpu_interface` meets its contract. Assumes nothing.
-use mathlib.Core.Path.{sym, _∙_}
-use Rattle.service.proofs.Soundness.{validated-sound}
-use Rattle.cpu_interface_frame.specs.CpuInterfaceFrame.{writeV2CpuInterface}
+use Rattle.answer.proofs.Present.{found-sound}
+use Rattle.cpu_interface_frame.proofs.Called.{write-broken, write-nowhere, write-somewhere}
 use borrow.Author.Needs.{needs}
 use Rattle.cpu_interface_frame.proofs.write_v2_cpu_interface.Statement.{
   statement,
@@ -21,8 +20,7 @@ same-length : tie.Need-same-length
 same-length c = search needs
 
 returns : tie.Need-returns
-unfolding writeV2CpuInterface
-returns c = simp (← c .before .before .validate-state .ensures, c .enum-told .given .1)
+returns c = search write-broken
 
 locate-cpu-interface-requires : tie.Need-locate-cpu-interface-requires
 locate-cpu-interface-requires c κs = search needs
@@ -37,21 +35,19 @@ cast-write-at : tie.Need-cast-write-at
 cast-write-at c = search needs
 
 write-at-requires : tie.Need-write-at-requires
-write-at-requires c κs = validated-sound _ (c .before .before .before .before .before .before .before .before .before .before .before .args .words .now) (sym (c .before .before .before .before .before .before .before .before .validate-state .ensures) ∙ c .before .before .before .before .before .before .shape .given .1)
+write-at-requires c κs = search found-sound
 
 same-length-2 : tie.Need-same-length-2
 same-length-2 c = search needs
 
 returns-2 : tie.Need-returns-2
-unfolding writeV2CpuInterface
-returns-2 c = simp (← c .before .before .before .before .before .before .before .validate-state .ensures, c .before .before .before .before .before .shape .given .1, ← c .before .before .before .locate-cpu-interface .ensures, c .before .refusal .given .1)
+returns-2 c = search write-nowhere
 
 same-length-3 : tie.Need-same-length-3
 same-length-3 c = search needs
 
 returns-3 : tie.Need-returns-3
-unfolding writeV2CpuInterface
-returns-3 c = c .before .before .write-at .ensures ∙ simp (← c .before .before .before .before .before .before .before .before .before .before .before .validate-state .ensures, c .before .before .before .before .before .before .before .before .before .shape .given .1, ← c .before .before .before .before .before .before .before .locate-cpu-interface .ensures, c .before .before .before .before .before .register .given .1)
+returns-3 c = search write-somewhere
 
 pub write-v2-cpu-interface-spec : {M : Type 1} → statement M
 write-v2-cpu-interface-spec =

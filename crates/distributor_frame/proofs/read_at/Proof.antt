@@ -1,6 +1,5 @@
 -- `distributor_frame::read_at` meets its contract. Assumes nothing.
-use mathlib.Core.Path.{sym, _∙_}
-use Rattle.distributor_frame.proofs.Passed.{place-read}
+use Rattle.distributor_frame.proofs.Passed.{read-refused, read-passed, read-answered}
 use borrow.Author.Needs.{needs}
 use Rattle.distributor_frame.proofs.read_at.Statement.{statement}
 use Rattle.distributor_frame.proofs.read_at.Tie as tie
@@ -12,16 +11,16 @@ absent-requires : tie.Need-absent-requires
 absent-requires c κs = search needs
 
 returns : tie.Need-returns
-returns c = simp (← c .before .before .read-looks-up .ensures, ← c .before .absent .ensures, c .if1 .taken)
+returns c = search read-refused
 
 read-place-requires : tie.Need-read-place-requires
-read-place-requires c κs = place-read (c .before .before .before .before .args .vcpu .0) (c .before .before .before .before .pre .0) (c .before .before .before .before .pre .1) (rw (c .before .before .read-looks-up .ensures) at (sym (c .before .absent .ensures) ∙ c .if1 .left))
+read-place-requires c κs = search read-passed
 
 gave-requires : tie.Need-gave-requires
 gave-requires c κs = search needs
 
 returns-2 : tie.Need-returns-2
-returns-2 c = c .gave .ensures _ ∙ simp (← c .before .before .before .before .read-looks-up .ensures, ← c .before .before .before .absent .ensures, c .before .before .if1 .left, c .before .read-place .ensures)
+returns-2 c = search (read-answered, c .gave .ensures)
 
 pub read-at-spec : {M : Type 1} → statement M
 read-at-spec =

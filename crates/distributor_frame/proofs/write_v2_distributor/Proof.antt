@@ -1,7 +1,6 @@
 -- `distributor_frame::write_v2_distributor` meets its contract. Assumes nothing.
-use mathlib.Core.Path.{sym, _∙_}
-use Rattle.service.proofs.Soundness.{validated-sound}
-use Rattle.distributor_frame.specs.DistributorFrame.{writeV2Distributor}
+use Rattle.answer.proofs.Present.{found-sound}
+use Rattle.distributor_frame.proofs.Called.{at-located, write-broken, write-nowhere, write-private-width, write-somewhere}
 use borrow.Author.Needs.{needs}
 use Rattle.distributor_frame.proofs.write_v2_distributor.Statement.{statement}
 use Rattle.distributor_frame.proofs.write_v2_distributor.Tie as tie
@@ -19,8 +18,7 @@ same-length : tie.Need-same-length
 same-length c = search needs
 
 returns : tie.Need-returns
-unfolding writeV2Distributor
-returns c = simp (← c .before .before .validate-state .ensures, c .enum-told .given .1)
+returns c = search write-broken
 
 locate-distributor-requires : tie.Need-locate-distributor-requires
 locate-distributor-requires c κs = search needs
@@ -41,28 +39,25 @@ cast-write-at : tie.Need-cast-write-at
 cast-write-at c = search needs
 
 write-at-requires : tie.Need-write-at-requires
-write-at-requires c κs = (validated-sound _ (c .before .before .before .before .before .before .before .before .before .before .before .args .words .now) (sym (c .before .before .before .before .before .before .before .before .validate-state .ensures) ∙ c .before .before .before .before .before .before .shape .given .1), record { offset = c .before .before .before .before .before .before .before .before .before .before .before .args .offset; at = sym (c .before .before .before .before .locate-distributor .ensures) ∙ c .before .before .place .given .1 })
+write-at-requires c κs = search (found-sound, at-located)
 
 same-length-2 : tie.Need-same-length-2
 same-length-2 c = search needs
 
 returns-2 : tie.Need-returns-2
-unfolding writeV2Distributor
-returns-2 c = simp (← c .before .before .before .before .before .before .before .validate-state .ensures, c .before .before .before .before .before .shape .given .1, ← c .before .before .before .locate-distributor .ensures, c .before .refusal .given .1)
+returns-2 c = search write-nowhere
 
 same-length-3 : tie.Need-same-length-3
 same-length-3 c = search needs
 
 returns-3 : tie.Need-returns-3
-unfolding writeV2Distributor
-returns-3 c = c .private-width .ensures _ ∙ simp (← c .before .before .before .before .before .before .before .validate-state .ensures, c .before .before .before .before .before .shape .given .1, ← c .before .before .before .locate-distributor .ensures, c .before .enum-told2 .given .1)
+returns-3 c = search (write-private-width, c .private-width .ensures)
 
 same-length-4 : tie.Need-same-length-4
 same-length-4 c = search needs
 
 returns-4 : tie.Need-returns-4
-unfolding writeV2Distributor
-returns-4 c = c .before .before .write-at .ensures ∙ simp (← c .before .before .before .before .before .before .before .before .before .before .before .validate-state .ensures, c .before .before .before .before .before .before .before .before .before .shape .given .1, ← c .before .before .before .before .before .before .before .locate-distributor .ensures, c .before .before .before .before .before .place .given .1)
+returns-4 c = search write-somewhere
 
 pub write-v2-distributor-spec : {M : Type 1} → statement M
 write-v2-distributor-spec =

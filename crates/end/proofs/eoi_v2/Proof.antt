@@ -1,8 +1,14 @@
 -- `end::eoi_v2` meets its contract. Assumes nothing.
-use mathlib.Core.Path.{sym, _∙_}
+use mathlib.Core.Path.{_≡_, sym, _∙_}
+use Rattle.interrupt.specs.declared.types.DecodedIntId.the-variants.{Valid}
+use Rattle.end.specs.End.{decodedEoi}
 use borrow.Author.Needs.{needs}
 use Rattle.end.proofs.eoi_v2.Statement.{statement}
 use Rattle.end.proofs.eoi_v2.Tie as tie
+
+-- the number that is decoded
+number : (c : tie.After-intid) → decodedEoi (c .before .before .before .before .args .value) ≡ Valid (c .intid .given .0 .0)
+number c = sym (c .before .before .decode-eoi-intid .ensures) ∙ c .intid .given .1
 
 decode-eoi-intid-requires : tie.Need-decode-eoi-intid-requires
 decode-eoi-intid-requires c κs = search needs
@@ -17,13 +23,16 @@ returns : tie.Need-returns
 returns c = (simp (← c .before .before .decode-eoi-intid .ensures, c .enum-told .given .1), simp (← c .before .before .decode-eoi-intid .ensures, c .enum-told .given .1))
 
 end-interrupt-requires : tie.Need-end-interrupt-requires
-end-interrupt-requires c κs = c .before .before .before .before .before .before .pre .served _ (sym (c .before .before .before .before .decode-eoi-intid .ensures) ∙ c .before .before .intid .given .1)
+end-interrupt-requires c κs = c .before .before .before .before .before .before .pre .served _ (number (c .before .before))
 
 same-length : tie.Need-same-length
 same-length c = search needs
 
 returns-2 : tie.Need-returns-2
-returns-2 c = (c .before .before .end-interrupt .ensures .0 ∙ simp (← c .before .before .before .before .before .before .before .decode-eoi-intid .ensures, c .before .before .before .before .before .intid .given .1), c .before .before .end-interrupt .ensures .1 ∙ simp (← c .before .before .before .before .before .before .before .decode-eoi-intid .ensures, c .before .before .before .before .before .intid .given .1))
+returns-2 c =
+    let call = c .before .before in
+    let is = number (call .before .before .before) in
+    (rw is (call .end-interrupt .ensures .0), rw is (call .end-interrupt .ensures .1))
 
 pub eoi-v2-spec : {M : Type 1} → statement M
 eoi-v2-spec =

@@ -1,5 +1,4 @@
 -- `select::highest_pending` meets its contract. Assumes nothing.
-use Rattle.select.proofs.Ready.{needed-fits}
 use Rattle.select.proofs.KeyLaws.{private-inside, spis-inside, key-private, key-spis, selected-best}
 use borrow.Author.Needs.{needs}
 use Rattle.select.proofs.highest_pending.Statement.{statement}
@@ -17,15 +16,18 @@ mul-none c = search needs
 record-place-requires : tie.Need-record-place-requires
 record-place-requires c κs = search needs
 
+private-test-requires : tie.Need-private-test-requires
+private-test-requires c κs = search needs
+
 least-key-requires : tie.Need-least-key-requires
 least-key-requires c κs =
-    let at-call = c .before .before .before .before in
-    let a = at-call .args in
+    let placed = c .before in
+    let start = placed .before .before .before .before in
+    let a = start .args in
     record {
-      bits = search needs;
       order = search needs;
       numbers = search needs;
-      inside = rw (c .record-place .ensures .at) (private-inside (a .shape) (a .vcpu .0) (a .words .now) (at-call .pre));
+      inside = rw (placed .record-place .ensures .at) (private-inside (a .shape) (a .vcpu .0) (a .words .now) (start .pre));
     }
 
 spi-start-requires : tie.Need-spi-start-requires
@@ -34,29 +36,37 @@ spi-start-requires c κs = search needs
 sub-spis : tie.Need-sub-spis
 sub-spis c = search needs
 
-needed-of-spi-requires : tie.Need-needed-of-spi-requires
-needed-of-spi-requires c κs = search needs
+spi-test-requires : tie.Need-spi-test-requires
+spi-test-requires c κs = search needs
 
 least-key-requires-2 : tie.Need-least-key-requires-2
 least-key-requires-2 c κs =
-    let at-call = c .before .before .before .before .before .before .before in
-    let a = at-call .args in
+    let from = c .before in
+    let start = from .before .before .before .before .before .before .before in
+    let a = start .args in
     record {
-      bits = rw (c .needed-of-spi .ensures) (needed-fits (a .vcpu .0) (search needs));
       order = search needs;
       numbers = search needs;
-      inside = rw (c .before .spi-start .ensures) (spis-inside (a .shape) (a .vcpu .0) (a .words .now) (at-call .pre));
+      inside = rw (from .spi-start .ensures) (spis-inside (a .shape) (a .vcpu .0) (a .words .now) (start .pre));
     }
 
 of-key-requires : tie.Need-of-key-requires
 of-key-requires c κs = search needs
 
+-- the calls from the last to the first, each found from the one after it
 returns : tie.Need-returns
 returns c =
-    let at-call = c .before .before .before .before .before .before .before .before .before in
-    let a = at-call .args in
-    let limits = at-call .pre .state .limits in
-    rw (c .of-key .ensures, c .before .least-key2 .ensures, c .before .before .needed-of-spi .ensures, c .before .before .before .spi-start .ensures, c .before .before .before .before .least-key .ensures, c .before .before .before .before .before .record-place .ensures .at, c .before .before .before .before .before .before .before .v2-priority-mask .ensures, key-private (a .shape) (a .vcpu .0) (a .words .now), key-spis (a .shape) (a .vcpu .0) (a .words .now) limits (search needs))
+    let spis = c .before in
+    let tested = spis .before in
+    let from = tested .before in
+    let private = from .before in
+    let own = private .before in
+    let placed = own .before in
+    let masked = placed .before .before in
+    let start = masked .before .before in
+    let a = start .args in
+    let limits = start .pre .state .limits in
+    rw (c .of-key .ensures, spis .least-key2 .ensures, tested .spi-test .ensures, from .spi-start .ensures, private .least-key .ensures, own .private-test .ensures, placed .record-place .ensures .at, masked .v2-priority-mask .ensures, key-private (a .shape) (a .vcpu .0) (a .words .now), key-spis (a .shape) (a .vcpu .0) (a .words .now) limits (search needs))
     (selected-best (a .shape) (a .vcpu .0) (a .words .now) limits)
 
 pub highest-pending-spec : {M : Type 1} → statement M
@@ -67,10 +77,11 @@ highest-pending-spec =
     cast-none
     mul-none
     record-place-requires
+    private-test-requires
     least-key-requires
     spi-start-requires
     sub-spis
-    needed-of-spi-requires
+    spi-test-requires
     least-key-requires-2
     of-key-requires
     returns)

@@ -5,25 +5,26 @@ use Prim.Native.Nat.{ℕ, suc, _+_, _≤_, _-_}
 use mathlib.Core.Path.{_≡_, _∙_}
 use native.Mathlib.Nat.{sub-self}
 use native.Mathlib.Omega.{arith}
+use Rattle.select.specs.declared.WordTest.{WordTest}
 use Rattle.select.specs.Keys.{withWord, leastKey}
 use borrow.Author.Needs.{needs}
 use Rattle.select.proofs.least_key.Statement.{statement}
 use Rattle.select.proofs.least_key.Tie as tie
 
 -- a turn of the loop is a step of the definition
-one-more : (needed offset first n : ℕ) (s : List ℕ) (start : ℕ) → first ≤ n
-    → withWord needed n (getD s (offset + n) 0) (leastKey needed offset first s start (n - first)) ≡ leastKey needed offset first s start (n + 1 - first)
+one-more : (test : WordTest) (offset first n : ℕ) (s : List ℕ) (start : ℕ) → first ≤ n
+    → withWord test n (getD s (offset + n) 0) (leastKey test offset first s start (n - first)) ≡ leastKey test offset first s start (n + 1 - first)
 unfolding leastKey
-one-more needed offset first n s start h =
+one-more test offset first n s start h =
     let next : n + 1 - first ≡ suc (n - first) = omega arith in
     let back : first + (n - first) ≡ n = omega arith in
     rw (next, back)
 
 abbrev Inv-loop : tie.InvT-loop
-Inv-loop words offset first end needed start key₀ n₀ key n = (first ≤ n) × (n ≤ end) × (key ≡ leastKey needed offset first words start (n - first))
+Inv-loop words offset first end test start key₀ n₀ key n = (first ≤ n) × (n ≤ end) × (key ≡ leastKey test offset first words start (n - first))
 
 abbrev μ-loop : tie.MeasureT-loop
-μ-loop words offset first end needed start key₀ n₀ key n = end - n
+μ-loop words offset first end test start key₀ n₀ key n = end - n
 
 loop-holds : tie.Need-loop-holds Inv-loop μ-loop
 unfolding leastKey
@@ -56,7 +57,7 @@ loop-again c =
     let at-turn = c .before .before .before .loop in (
       search needs,
       search needs,
-      c .with-record .ensures ∙ rw (at-turn .inv .2) (one-more (a .needed) (a .offset) (a .first) (at-turn .n) (a .words .now) (a .start) (search needs)),
+      c .with-record .ensures ∙ rw (at-turn .inv .2) (one-more (a .test) (a .offset) (a .first) (at-turn .n) (a .words .now) (a .start) (search needs)),
     )
 
 returns : tie.Need-returns Inv-loop μ-loop

@@ -16,7 +16,9 @@ least-requires : tie.Need-least-requires
 least-requires c κs = search needs
 
 returns : tie.Need-returns
-returns c = simp (c .least .ensures, ← c .before .before .before .is-ready .ensures, c .before .before .if1 .taken)
+returns c =
+    let some = c .before .before in
+    simp (c .least .ensures, ← some .before .is-ready .ensures, some .if1 .taken)
 
 returns-2 : tie.Need-returns-2
 returns-2 c = simp (← c .before .is-ready .ensures, c .if1 .left)

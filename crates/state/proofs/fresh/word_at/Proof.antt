@@ -3,7 +3,7 @@ use mathlib.Core.Path.{_≡_}
 use native.Mathlib.Omega.{arith}
 use borrow.Author.Needs.{needs}
 use borrow.Author.Tests.{lt-ltb, le-ltb}
-use Rattle.state.specs.Layout.{slotAt, spiStart, stackStart}
+use Rattle.state.specs.Layout.{headerWords, slotAt, spiStart, stackStart}
 use Rattle.state.proofs.fresh.word_at.Statement.{statement}
 use Rattle.state.proofs.fresh.word_at.Tie as tie
 
@@ -27,11 +27,14 @@ returns-2 c = simp (le-ltb _ _ (c .before .before .before .if1 .left), lt-ltb (c
 stack-start-requires : tie.Need-stack-start-requires
 stack-start-requires c κs = search needs
 
-add-t10 : tie.Need-add-t10
-add-t10 c = search needs
+cast-t10 : tie.Need-cast-t10
+cast-t10 c = search needs
 
-cast-t11 : tie.Need-cast-t11
-cast-t11 c = search needs
+add-t11 : tie.Need-add-t11
+add-t11 c = search needs
+
+cast-t12 : tie.Need-cast-t12
+cast-t12 c = search needs
 
 starting-word-requires : tie.Need-starting-word-requires
 starting-word-requires c κs = search needs
@@ -41,13 +44,13 @@ unfolding slotAt
 returns-3 c =
     let a = c .before .before .before .before .before .before .args in
     let e : c .before .before .before .before .spi-start .result ≡ spiStart (a .shape) = c .before .before .before .before .spi-start .ensures in
-    simp (le-ltb (a .at) 3 (omega arith), le-ltb (a .at) (spiStart (a .shape)) (omega arith), lt-ltb (a .at) (stackStart (a .shape)) (omega arith)) (simp e at (c .starting-word .ensures))
+    simp (le-ltb (a .at) headerWords (omega arith), le-ltb (a .at) (spiStart (a .shape)) (omega arith), lt-ltb (a .at) (stackStart (a .shape)) (omega arith)) (simp e at (c .starting-word .ensures))
 
 returns-4 : tie.Need-returns-4
 unfolding slotAt
 returns-4 c =
     let a = c .before .before .before .before .before .args in
-    simp (le-ltb (a .at) 3 (omega arith), le-ltb (a .at) (spiStart (a .shape)) (omega arith), le-ltb (a .at) (stackStart (a .shape)) (omega arith))
+    simp (le-ltb (a .at) headerWords (omega arith), le-ltb (a .at) (spiStart (a .shape)) (omega arith), le-ltb (a .at) (stackStart (a .shape)) (omega arith))
 
 pub word-at-spec : {M : Type 1} → statement M
 word-at-spec =
@@ -59,8 +62,9 @@ word-at-spec =
     vcpu-word-requires
     returns-2
     stack-start-requires
-    add-t10
-    cast-t11
+    cast-t10
+    add-t11
+    cast-t12
     starting-word-requires
     returns-3
     returns-4)

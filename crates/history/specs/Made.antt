@@ -1,4 +1,5 @@
--- Which moves a call makes: by the register that an access falls on, by the vCPU, by the device's signal. Assumes nothing.
+-- Which moves a call makes: by the register that an access falls on, by the vCPU, by the device's signal. That it makes no others is a law
+-- (`call-chain`); the promises speak of calls, and a reader need not believe any of this.
 use mathlib.Core.Path.{_≡_}
 use mathlib.Core.Bool.{true, false}
 use mathlib.Core.Logic.{_⊎_}
@@ -13,7 +14,6 @@ use Rattle.register.specs.declared.ranges.Class.{Class}
 use Rattle.register.specs.declared.ranges.Class.the-variants.{Ctlr, Typer, Iidr, Sgir, Bits, Bytes, Other}
 use Rattle.register.specs.declared.distributor.DistributorAccess.{DistributorAccess}
 use Rattle.register.specs.declared.distributor.DistributorAccess.the-variants.{Refused, PrivateWidth, At}
-use Rattle.register.specs.Distributor.{locateDistributor}
 use Rattle.register.specs.Frame.{bytes}
 use Rattle.word.specs.Fields.{fieldAt}
 use Rattle.word.specs.Word.{triggerOf}
@@ -23,7 +23,9 @@ use Rattle.targets.specs.Targets.{existingBits}
 use Rattle.sgi.specs.Sgi.{sgiTarget, includes}
 use Rattle.moves.specs.Moves as moves
 use Rattle.moves.specs.Moves.{Change, Move, Changed, Sourced, Kept, Switched, Given, Popped}
-use Rattle.history.specs.History.{Call, Setup, ReadDistributor, WriteDistributor, ReadCpuInterface, WriteCpuInterface, SetLevel, Pulse}
+use Rattle.input.specs.declared.Signal.{Signal}
+use Rattle.input.specs.declared.Signal.the-variants.{Level, Edge}
+use Rattle.history.specs.History.{Call, Action, Looks, ReadsRegister, WritesRegister, WritesPlace, Signals, Deed, Starts, Acts, deed}
 
 -- the field x of a bit register makes the change c
 abbrev pub BitMakes : BitRegister → ℕ → Change → Type 0
@@ -56,16 +58,16 @@ pub record ByteMade (shape : Shape) (register : ByteRegister) (v first count val
   pub in-run : at < count
   pub is : m ≡ byteMove shape register v (first + at) (fieldAt 8 at value)
 
-pub record Rung (v value : ℕ) (m : Move) : Type 0 where
+pub record RingMade (v value : ℕ) (m : Move) : Type 0 where
   pub to : ℕ
   pub named : includes (sgiTarget value) v to ≡ true
   pub is : m ≡ Sourced to (value % 16) true (2 ^ v)
 
 abbrev pub ClassMade : Shape → ℕ → Class → ℕ → AccessWidth → ℕ → Move → Type 0
-ClassMade shape v Ctlr first width value m = m ≡ Switched (eqb (value % 2) 1)
+ClassMade shape v Ctlr first width value m = m ≡ Switched value
 ClassMade shape v Typer first width value m = ⊥
 ClassMade shape v Iidr first width value m = ⊥
-ClassMade shape v Sgir first width value m = Rung v value m
+ClassMade shape v Sgir first width value m = RingMade v value m
 ClassMade shape v (Bits register) first width value m = BitMade register v first value m
 ClassMade shape v (Bytes register) first width value m = ByteMade shape register v first (bytes width) value m
 ClassMade shape v Other first width value m = ⊥
@@ -80,7 +82,7 @@ abbrev pub ReadMade : ℕ → Move → Type 0
 ReadMade v (Changed u n c) = ⊥
 ReadMade v (Sourced u n on byte) = ⊥
 ReadMade v (Kept u k x) = ⊥
-ReadMade v (Switched on) = ⊥
+ReadMade v (Switched value) = ⊥
 ReadMade v (Given u e) = u ≡ v
 ReadMade v (Popped u) = ⊥
 
@@ -96,21 +98,31 @@ Ends (moves.SetLevel a) = ⊥
 Ends moves.Pulse = ⊥
 Ends moves.DeactivateInflight = Unit
 Ends moves.Complete = Unit
+Ends moves.ClearDeliveryState = ⊥
 
 abbrev pub WriteMade : ℕ → Move → Type 0
 WriteMade v (Changed u n c) = (u ≡ v) × Ends c
 WriteMade v (Sourced u n on byte) = ⊥
 WriteMade v (Kept u k x) = u ≡ v
-WriteMade v (Switched on) = ⊥
+WriteMade v (Switched value) = ⊥
 WriteMade v (Given u e) = ⊥
 WriteMade v (Popped u) = u ≡ v
 
--- "Bits of a written value above the access width are ignored"
+abbrev pub signalChange : Signal → Change
+signalChange (Level asserted) = moves.SetLevel asserted
+signalChange Edge = moves.Pulse
+
+abbrev pub ActionMade : Shape → Action → Move → Type 0
+ActionMade shape (Looks by) m = ⊥
+ActionMade shape (ReadsRegister v a) m = ReadMade v m
+ActionMade shape (WritesRegister v a value) m = WriteMade v m
+ActionMade shape (WritesPlace v a width value) m = PlaceMade shape v a width value m
+ActionMade shape (Signals v n signal) m = m ≡ Changed v n (signalChange signal)
+
+-- a call that starts a controller anew makes no move of the one that it finds
+abbrev pub DeedMade : Shape → Deed → Move → Type 0
+DeedMade shape (Starts count limit) m = ⊥
+DeedMade shape (Acts a) m = ActionMade shape a m
+
 abbrev pub Made : Shape → Call → Move → Type 0
-Made shape (Setup count limit) m = ⊥
-Made shape (ReadDistributor v offset width) m = ⊥
-Made shape (WriteDistributor v offset width value) m = PlaceMade shape v (locateDistributor offset width) width (value % 2 ^ 32) m
-Made shape (ReadCpuInterface v offset width) m = ReadMade v m
-Made shape (WriteCpuInterface v offset width value) m = WriteMade v m
-Made shape (SetLevel v n asserted) m = m ≡ Changed v n (moves.SetLevel asserted)
-Made shape (Pulse v n) m = m ≡ Changed v n moves.Pulse
+Made shape c m = DeedMade shape (deed c) m
