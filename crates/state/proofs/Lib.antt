@@ -5,6 +5,7 @@ pub mod Decoded
 pub mod Equal
 pub mod Numbers
 pub mod Places
+pub mod SlotBits
 pub mod SlotKinds
 pub mod Starting
 pub mod Steps
