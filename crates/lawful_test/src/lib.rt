@@ -1,0 +1,171 @@
+// Whether the words of a state are lawful: one pass, in which each record and each entry under service is read once.
+// What lawful means is in crates/lawful; that the test says just this, in proofs/Passing.antt.
+ghost use mathlib.Core.Path.{_≡_};
+ghost use Prim.Native.Nat.{_+_, _≤_, _<_};
+ghost use Rattle.state.specs.Layout.{Limits};
+ghost use Rattle.state.specs.Loop.{everyBelow};
+ghost use Rattle.state.specs.Words.{Reached};
+ghost use Rattle.service.specs.Service.{Served, Sound};
+ghost use Rattle.lawful_test.specs.LawfulTest.{mayServe, ownerLawful, maskLawful, sgiLawful, recordLawful, sourcesLawful, numberLawful, numbersLawful, entryLawful, stackLawful, vcpuLawful, isLawful};
+use interrupt::CpuTargetMask;
+use interrupt::GicVcpuId;
+use interrupt::IntId;
+use interrupt::InterruptRecord;
+use interrupt::Owner;
+use interrupt::Priority;
+use service::depth;
+use state::Entry;
+use state::Shape;
+use state::layout::FIRST_SPI;
+use state::words::record;
+use state::words::sgi_sources;
+use state::words::stack_entry;
+
+// A private record is its own vCPU's, an SPI's any existing one's.
+fn may_serve(shape: Shape, vcpu: GicVcpuId, intid: IntId, server: GicVcpuId) -> bool
+    ensures { λ r. ⌜ r ≡ mayServe shape (vcpu .0) (intid .0) (server .0) ⌝ }
+{
+    if intid.is_private() {
+        server.0 == vcpu.0
+    } else {
+        server.0 < shape.count
+    }
+}
+
+fn owner_lawful(shape: Shape, vcpu: GicVcpuId, intid: IntId, inflight: bool, owner: Owner) -> bool
+    ensures { λ r. ⌜ r ≡ ownerLawful shape (vcpu .0) (intid .0) inflight owner ⌝ }
+{
+    match owner {
+        Owner::Nobody => !inflight,
+        Owner::Vcpu(id) => inflight & may_serve(shape, vcpu, intid, id),
+    }
+}
+
+fn mask_lawful(shape: Shape, intid: IntId, mask: CpuTargetMask) -> bool
+    requires { ⌜ Limits shape ⌝ }
+    ensures { λ r. ⌜ r ≡ maskLawful shape (intid .0) mask ⌝ }
+{
+    match mask {
+        CpuTargetMask::Unset => true,
+        CpuTargetMask::Mask(byte) => !intid.is_private() & ((byte as u32) < (1u32 << shape.count)),
+    }
+}
+
+fn sgi_lawful(intid: IntId, record: InterruptRecord) -> bool
+    ensures { λ r. ⌜ r ≡ sgiLawful (intid .0) «record» ⌝ }
+{
+    let trigger = record.trigger;
+    !intid.is_sgi() | (!trigger.is_level() & !record.line_asserted & !record.redelivery_pending)
+}
+
+fn record_lawful(shape: Shape, vcpu: GicVcpuId, intid: IntId, record: InterruptRecord) -> bool
+    requires { ⌜ Limits shape ⌝ }
+    ensures { λ r. ⌜ r ≡ recordLawful shape (vcpu .0) (intid .0) «record» ⌝ }
+{
+    let owner = record.owner;
+    let mask = record.cpu_target_mask;
+    (!record.inflight | record.active)
+        & (!record.redelivery_pending | record.inflight)
+        & owner_lawful(shape, vcpu, intid, record.inflight, owner)
+        & mask_lawful(shape, intid, mask)
+        & sgi_lawful(intid, record)
+}
+
+// An SGI is pending exactly when a source is set.
+fn sources_lawful(sources: u8, pending: bool) -> bool
+    ensures { λ r. ⌜ r ≡ sourcesLawful sources pending ⌝ }
+{
+    if pending { sources != 0 } else { sources == 0 }
+}
+
+fn number_lawful(words: &[u32], shape: Shape, vcpu: GicVcpuId, intid: IntId) -> bool
+    requires { ⌜ Reached shape (vcpu .0) (intid .0) (now words) ⌝ }
+    ensures { λ r. ⌜ r ≡ numberLawful shape (vcpu .0) (now (words .entry)) (intid .0) ⌝ }
+{
+    let found = record(words, shape, vcpu, intid);
+    let lawful = record_lawful(shape, vcpu, intid, found);
+    if intid.is_sgi() {
+        lawful & sources_lawful(sgi_sources(words, shape, vcpu, intid), found.pending)
+    } else {
+        lawful
+    }
+}
+
+// The records of `many` numbers from `first` up, as `vcpu` meets them.
+fn numbers_lawful(words: &[u32], shape: Shape, vcpu: GicVcpuId, first: u32, many: u32) -> bool
+    requires { ⌜ (Served shape (vcpu .0) (now words)) × (first + many ≤ shape .limit) ⌝ }
+    ensures { λ r. ⌜ r ≡ numbersLawful shape (vcpu .0) (now (words .entry)) first many ⌝ }
+{
+    let mut i = 0;
+    while i < many {
+        if !number_lawful(words, shape, vcpu, IntId(first + i)) {
+            return false;
+        }
+        i += 1;
+    }
+    true
+}
+
+fn entry_lawful(shape: Shape, above: Priority, entry: Entry) -> bool
+    ensures { λ r. ⌜ r ≡ entryLawful shape (above .0) «entry» ⌝ }
+{
+    (entry.priority.0 < above.0) & (entry.intid.0 < shape.limit)
+}
+
+// From the oldest: each lies below the one before it, and the oldest below what runs when nothing does.
+fn stack_lawful(words: &[u32], shape: Shape, vcpu: GicVcpuId) -> bool
+    requires { ⌜ Served shape (vcpu .0) (now words) ⌝ }
+    ensures { λ r. ⌜ r ≡ stackLawful shape (vcpu .0) (now (words .entry)) ⌝ }
+{
+    let held = depth(words, shape, vcpu) as usize;
+    let mut above = Priority::IDLE;
+    let mut i = 0;
+    while i < held {
+        let entry = stack_entry(words, shape, vcpu, i);
+        if !entry_lawful(shape, above, entry) {
+            return false;
+        }
+        above = entry.priority;
+        i += 1;
+    }
+    true
+}
+
+fn vcpu_lawful(words: &[u32], shape: Shape, vcpu: GicVcpuId) -> bool
+    requires { ⌜ Served shape (vcpu .0) (now words) ⌝ }
+    ensures { λ r. ⌜ r ≡ vcpuLawful shape (now (words .entry)) (vcpu .0) ⌝ }
+{
+    if stack_lawful(words, shape, vcpu) {
+        numbers_lawful(words, shape, vcpu, 0, FIRST_SPI)
+    } else {
+        false
+    }
+}
+
+fn vcpus_lawful(words: &[u32], shape: Shape) -> bool
+    requires { ⌜ Sound shape (now words) ⌝ }
+    ensures { λ r. ⌜ r ≡ everyBelow (vcpuLawful shape (now (words .entry))) (shape .count) ⌝ }
+{
+    let count = shape.count;
+    let mut v = 0;
+    while v < count {
+        if !vcpu_lawful(words, shape, GicVcpuId(v)) {
+            return false;
+        }
+        v += 1;
+    }
+    true
+}
+
+// Of words that refusal 6 lets pass. The records of SPIs are met as vCPU 0 meets them.
+pub fn is_lawful(words: &[u32], shape: Shape) -> bool
+    requires { ⌜ Sound shape (now words) ⌝ }
+    ensures { λ r. ⌜ r ≡ isLawful shape (now (words .entry)) ⌝ }
+{
+    if vcpus_lawful(words, shape) {
+        let spis = shape.limit - FIRST_SPI;
+        numbers_lawful(words, shape, GicVcpuId(0), FIRST_SPI, spis)
+    } else {
+        false
+    }
+}
