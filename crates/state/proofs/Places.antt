@@ -12,7 +12,7 @@ use Rattle.word.proofs.RecordWord.{decode-encode}
 use Rattle.state.specs.declared.layout.Shape.{Shape}
 use Rattle.state.specs.declared.layout.InterfaceValue.{InterfaceValue}
 use Rattle.state.specs.declared.layout.InterfaceValue.the-variants.{Control, PriorityMask, BinaryPoint, Depth}
-use Rattle.state.specs.Layout.{Slot, Count, Limit, DistributorControl, Interface, Sources, Private, Spi, Stack, interfaceNumber, headerWords, sourcesStart, privateStart, vcpuWords, firstSpi, stackCapacity, spiStart, stackStart, size, largestSize, place, Exists, Limits, interfaceOf, headerSlot, vcpuSlot, slotAt, kindOf}
+use Rattle.state.specs.Layout.{Slot, Count, Limit, DistributorControl, Interface, Sources, Private, Spi, Stack, interfaceNumber, headerWords, sourcesStart, privateStart, vcpuWords, firstSpi, stackCapacity, spiStart, spiEnd, stackStart, size, largestSize, place, Exists, Limits, interfaceOf, headerSlot, vcpuSlot, tailSlot, slotAt, kindOf}
 use Rattle.state.specs.Words.{kept, startOf, CanonicalWord}
 
 -- no state is larger than that of 8 vCPUs and limit 1020, which takes less than 32 KiB
@@ -75,6 +75,10 @@ of-vcpu shape v r hv hr =
     let b : (headerWords + vcpuWords * v + r - headerWords) % vcpuWords ≡ r = omega arith in
     simp (le-ltb (headerWords + vcpuWords * v + r) headerWords (omega arith), lt-ltb (headerWords + vcpuWords * v + r) (spiStart shape) (omega arith), a, b)
 
+past-spis : (shape : Shape) (k : ℕ) → spiEnd shape ≤ k → slotAt shape k ≡ tailSlot shape k
+unfolding slotAt
+past-spis shape k h = simp (le-ltb k headerWords (omega arith), le-ltb k (spiStart shape) (omega arith), le-ltb k (spiEnd shape) (omega arith))
+
 -- what stands at a slot's place is that slot
 pub slot-back : (shape : Shape) (t : Slot) → Exists shape t → slotAt shape (place shape t) ≡ t
 unfolding slotAt headerSlot vcpuSlot
@@ -93,12 +97,12 @@ slot-back shape (Private v n) e =
 slot-back shape (Spi n) e =
     let k : ℕ = spiStart shape + (n - firstSpi) in
     let r : k - spiStart shape + firstSpi ≡ n = omega arith in
-    simp (le-ltb k headerWords (omega arith), le-ltb k (spiStart shape) (omega arith), lt-ltb k (stackStart shape) (omega arith), r)
+    simp (le-ltb k headerWords (omega arith), le-ltb k (spiStart shape) (omega arith), lt-ltb k (spiEnd shape) (omega arith), r)
 slot-back shape (Stack v i) e =
     let k : ℕ = stackStart shape + (stackCapacity * v + i) in
     let a : (k - stackStart shape) / stackCapacity ≡ v = omega arith in
     let b : (k - stackStart shape) % stackCapacity ≡ i = omega arith in
-    simp (le-ltb k headerWords (omega arith), le-ltb k (spiStart shape) (omega arith), le-ltb k (stackStart shape) (omega arith), a, b)
+    past-spis shape k (omega arith) ∙ simp (a, b)
 
 -- no two slots stand at one place
 pub place-apart : (shape : Shape) (t u : Slot) → Exists shape t → Exists shape u → place shape t ≡ place shape u → t ≡ u
@@ -149,32 +153,37 @@ vcpu-at shape v r b h = go (ltb r sourcesStart) (ltb r privateStart) refl refl
         let y : privateStart ≤ r = ltb-false r privateStart q in
         record { exists = (b, omega arith); stands = omega arith }
 
+tail-at : (shape : Shape) (k : ℕ) → Limits shape → spiEnd shape ≤ k → k < size shape → At shape k (tailSlot shape k)
+tail-at shape k l past h = record { exists = (omega arith, omega arith); stands = omega arith }
+
 -- every place of a state has its slot
 pub every-place : (shape : Shape) (k : ℕ) → Limits shape → k < size shape → At shape k (slotAt shape k)
 unfolding slotAt
-every-place shape k l h = go (ltb k headerWords) (ltb k (spiStart shape)) (ltb k (stackStart shape)) refl refl refl
+every-place shape k l h = go (ltb k headerWords) (ltb k (spiStart shape)) (ltb k (spiEnd shape)) refl refl refl
   where
     in-vcpu : headerWords ≤ k → k < spiStart shape → At shape k (vcpuSlot ((k - headerWords) / vcpuWords) ((k - headerWords) % vcpuWords))
     in-vcpu a b =
         let e : headerWords + vcpuWords * ((k - headerWords) / vcpuWords) + (k - headerWords) % vcpuWords ≡ k = omega arith in
         rw e at (vcpu-at shape ((k - headerWords) / vcpuWords) ((k - headerWords) % vcpuWords) (omega arith) (omega arith))
 
-    go : (x y z : Bool) → ltb k headerWords ≡ x → ltb k (spiStart shape) ≡ y → ltb k (stackStart shape) ≡ z
-        → At shape k (cond x (headerSlot k) (cond y (vcpuSlot ((k - headerWords) / vcpuWords) ((k - headerWords) % vcpuWords)) (cond z (Spi (k - spiStart shape + firstSpi)) (Stack ((k - stackStart shape) / stackCapacity) ((k - stackStart shape) % stackCapacity)))))
+    go : (x y z : Bool) → ltb k headerWords ≡ x → ltb k (spiStart shape) ≡ y → ltb k (spiEnd shape) ≡ z
+        → At shape k (cond x (headerSlot k) (cond y (vcpuSlot ((k - headerWords) / vcpuWords) ((k - headerWords) % vcpuWords)) (cond z (Spi (k - spiStart shape + firstSpi)) (tailSlot shape k))))
     go true y z p q r = header-at shape k (ltb-true k headerWords p)
     go false true z p q r = in-vcpu (ltb-false k headerWords p) (ltb-true k (spiStart shape) q)
     go false false true p q r =
         let a : spiStart shape ≤ k = ltb-false k (spiStart shape) q in
-        let b : k < stackStart shape = ltb-true k (stackStart shape) r in
+        let b : k < spiEnd shape = ltb-true k (spiEnd shape) r in
         record { exists = (omega arith, omega arith); stands = omega arith }
-    go false false false p q r =
-        let a : stackStart shape ≤ k = ltb-false k (stackStart shape) r in
-        record { exists = (omega arith, omega arith); stands = omega arith }
+    go false false false p q r = tail-at shape k l (ltb-false k (spiEnd shape) r) h
 
 -- a slot starts as it is written
 pub starting-in-range : (n : ℕ) → InRange (startingRecord (record { 0 = n }))
 unfolding startingRecord newRecord
 starting-in-range n = record { priority-byte = omega arith; mask-byte = omega arith; owner-byte = tt }
+
+-- and past the records of the SPIs every word as 0
+pub tail-starts : (shape : Shape) (k : ℕ) → spiEnd shape ≤ k → startOf shape (slotAt shape k) ≡ 0
+tail-starts shape k h = ap (startOf shape) (past-spis shape k h)
 
 pub start-written : (shape : Shape) (t : Slot) → CanonicalWord t (startOf shape t)
 start-written shape Count = refl

@@ -58,9 +58,12 @@ vcpuStart v = headerWords + vcpuWords * v
 abbrev pub spiStart : Shape → ℕ
 spiStart shape = vcpuStart (shape .count)
 
+abbrev pub spiEnd : Shape → ℕ
+spiEnd shape = spiStart shape + (shape .limit - firstSpi)
+
 -- the stacks stand last
 abbrev pub stackStart : Shape → ℕ
-stackStart shape = spiStart shape + (shape .limit - firstSpi)
+stackStart shape = spiEnd shape
 
 abbrev pub size : Shape → ℕ
 size shape = stackStart shape + stackCapacity * shape .count
@@ -92,12 +95,15 @@ headerSlot k = cond (eqb k 0) Count (cond (eqb k 1) Limit DistributorControl)
 unfoldable pub vcpuSlot : ℕ → ℕ → Slot
 vcpuSlot v r = cond (ltb r sourcesStart) (Interface v (interfaceOf r)) (cond (ltb r privateStart) (Sources v (r - sourcesStart)) (Private v (r - privateStart)))
 
+-- past the records of the SPIs
+abbrev pub tailSlot : Shape → ℕ → Slot
+tailSlot shape k = Stack ((k - stackStart shape) / stackCapacity) ((k - stackStart shape) % stackCapacity)
+
 unfoldable pub slotAt : Shape → ℕ → Slot
 slotAt shape k =
     cond (ltb k headerWords) (headerSlot k)
     (cond (ltb k (spiStart shape)) (vcpuSlot ((k - headerWords) / vcpuWords) ((k - headerWords) % vcpuWords))
-    (cond (ltb k (stackStart shape)) (Spi (k - spiStart shape + firstSpi))
-    (Stack ((k - stackStart shape) / stackCapacity) ((k - stackStart shape) % stackCapacity))))
+    (cond (ltb k (spiEnd shape)) (Spi (k - spiStart shape + firstSpi)) (tailSlot shape k)))
 
 -- the slots that a state has
 abbrev pub Exists : Shape → Slot → Type 0

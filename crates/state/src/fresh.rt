@@ -60,7 +60,7 @@ fn word_at(shape: Shape, at: usize) -> u32
     if at < spis {
         return vcpu_word((at - HEADER_WORDS) % VCPU_WORDS);
     }
-    if at < shape.stack_start() {
+    if at < shape.spi_end() {
         starting_word(IntId((at - spis + FIRST_SPI as usize) as u32))
     } else {
         0

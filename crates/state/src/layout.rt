@@ -1,7 +1,7 @@
 // Where each word of the state stands. Every place is linear in the vCPU's and the interrupt's number.
 ghost use mathlib.Core.Path.{_≡_};
 ghost use Prim.Native.Nat.{_+_, _<_};
-ghost use Rattle.state.specs.Layout.{interfaceNumber, sourcesStart, vcpuStart, spiStart, stackStart, size, Limits, Inside, Placed, Interface, Sources, Private, Spi, Stack};
+ghost use Rattle.state.specs.Layout.{interfaceNumber, sourcesStart, vcpuStart, spiStart, spiEnd, stackStart, size, Limits, Inside, Placed, Interface, Sources, Private, Spi, Stack};
 ghost use Rattle.state.specs.Words.{recordSlot, RecordThere};
 use interrupt::GicVcpuId;
 use interrupt::IntId;
@@ -68,11 +68,18 @@ impl Shape {
         HEADER_WORDS + VCPU_WORDS * self.count
     }
 
-    pub fn stack_start(self) -> usize
+    pub fn spi_end(self) -> usize
+        requires { ⌜ Limits self ⌝ }
+        ensures { λ r. ⌜ r ≡ spiEnd self ⌝ }
+    {
+        self.spi_start() + (self.limit - FIRST_SPI) as usize
+    }
+
+    fn stack_start(self) -> usize
         requires { ⌜ Limits self ⌝ }
         ensures { λ r. ⌜ r ≡ stackStart self ⌝ }
     {
-        self.spi_start() + (self.limit - FIRST_SPI) as usize
+        self.spi_end()
     }
 
     // How many words a state takes.

@@ -1,9 +1,10 @@
 -- `state::fresh::word_at` meets its contract. Assumes nothing.
-use mathlib.Core.Path.{_≡_}
+use mathlib.Core.Path.{_≡_, sym}
 use native.Mathlib.Omega.{arith}
 use borrow.Author.Needs.{needs}
 use borrow.Author.Tests.{lt-ltb, le-ltb}
-use Rattle.state.specs.Layout.{headerWords, slotAt, spiStart, stackStart}
+use Rattle.state.specs.Layout.{headerWords, slotAt, spiStart, spiEnd}
+use Rattle.state.proofs.Places.{tail-starts}
 use Rattle.state.proofs.fresh.word_at.Statement.{statement}
 use Rattle.state.proofs.fresh.word_at.Tie as tie
 
@@ -24,8 +25,8 @@ returns-2 : tie.Need-returns-2
 unfolding slotAt
 returns-2 c = simp (le-ltb _ _ (c .before .before .before .if1 .left), lt-ltb (c .before .before .before .before .args .at) (spiStart (c .before .before .before .before .args .shape)) (omega arith)) (c .vcpu-word .ensures _ _)
 
-stack-start-requires : tie.Need-stack-start-requires
-stack-start-requires c κs = search needs
+spi-end-requires : tie.Need-spi-end-requires
+spi-end-requires c κs = search needs
 
 cast-t10 : tie.Need-cast-t10
 cast-t10 c = search needs
@@ -44,13 +45,12 @@ unfolding slotAt
 returns-3 c =
     let a = c .before .before .before .before .before .before .args in
     let e : c .before .before .before .before .spi-start .result ≡ spiStart (a .shape) = c .before .before .before .before .spi-start .ensures in
-    simp (le-ltb (a .at) headerWords (omega arith), le-ltb (a .at) (spiStart (a .shape)) (omega arith), lt-ltb (a .at) (stackStart (a .shape)) (omega arith)) (simp e at (c .starting-word .ensures))
+    simp (le-ltb (a .at) headerWords (omega arith), le-ltb (a .at) (spiStart (a .shape)) (omega arith), lt-ltb (a .at) (spiEnd (a .shape)) (omega arith)) (simp e at (c .starting-word .ensures))
 
 returns-4 : tie.Need-returns-4
-unfolding slotAt
 returns-4 c =
     let a = c .before .before .before .before .before .args in
-    simp (le-ltb (a .at) headerWords (omega arith), le-ltb (a .at) (spiStart (a .shape)) (omega arith), le-ltb (a .at) (stackStart (a .shape)) (omega arith))
+    sym (tail-starts (a .shape) (a .at) (omega arith))
 
 pub word-at-spec : {M : Type 1} → statement M
 word-at-spec =
@@ -61,7 +61,7 @@ word-at-spec =
     spi-start-requires
     vcpu-word-requires
     returns-2
-    stack-start-requires
+    spi-end-requires
     cast-t10
     add-t11
     cast-t12
