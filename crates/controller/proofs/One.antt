@@ -18,6 +18,7 @@ use Rattle.controller.specs.Start.{setup, SetupPromise}
 use Rattle.distributor_frame.specs.DistributorFrame.{readV2Distributor, writeV2Distributor, ReadDistributorPromise, WriteDistributorPromise}
 use Rattle.cpu_interface_frame.specs.CpuInterfaceFrame.{readV2CpuInterface, writeV2CpuInterface, ReadCpuInterfacePromise, WriteCpuInterfacePromise}
 use Rattle.input.specs.Input.{deviceLevel, devicePulse, SetLevelPromise, PulsePromise}
+use Rattle.look.specs.Look.{irqLevel, interruptWord, IrqLevelPromise, InterruptWordPromise}
 
 -- a refusal is known by its number, and no number is 0
 numbered : (r q : Refusal) → refusalNumber r ≡ refusalNumber q → r ≡ q
@@ -92,3 +93,9 @@ set-level-one v n asserted s = one (deviceLevel v n asserted s)
 
 pub pulse-one : (v n : ℕ) (s : List ℕ) → AdmitsOne (PulsePromise v n s)
 pulse-one v n s = one (devicePulse v n s)
+
+pub irq-level-one : (v : ℕ) (s : List ℕ) → AdmitsOne (IrqLevelPromise v s)
+irq-level-one v s = one (irqLevel v s)
+
+pub interrupt-word-one : (v n : ℕ) (s : List ℕ) → AdmitsOne (InterruptWordPromise v n s)
+interrupt-word-one v n s = one (interruptWord v n s)

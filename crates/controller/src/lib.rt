@@ -1,4 +1,4 @@
-// The public calls: setup, the two frames under their Rust names, and device inputs. None asks anything of its caller. Mirrors the entries
+// The public calls: setup, the two frames under their Rust names, device inputs, and what a host may look at. None asks anything of its caller. Mirrors the entries
 // of v2.rs.
 pub mod start;
 
@@ -10,4 +10,6 @@ pub use distributor_frame::read_v2_distributor;
 pub use distributor_frame::write_v2_distributor;
 pub use input::pulse;
 pub use input::set_level;
+pub use look::interrupt_word;
+pub use look::irq_level;
 pub use start::setup;

@@ -3,7 +3,7 @@
 use mathlib.Core.Path.{_≡_, refl, sym, subst, _∙_}
 use mathlib.Core.Bool.{Bool, true, false, not, cond, _&&_, true≢false}
 use mathlib.Core.List.{List, [], _∷_}
-use mathlib.Core.Option.{Option, some}
+use mathlib.Core.Option.{Option, none, some}
 use Prim.Native.Nat.{ℕ, _%_, _^_, _≤_, _<_}
 use native.Mathlib.Omega.{arith}
 use lib.Dec.{ltb}
@@ -18,11 +18,12 @@ use Rattle.register.specs.declared.«cpu_interface».CpuInterfaceAccess.the-var
 use Rattle.register.specs.declared.frame.Refusal.the-variants as refusal
 use Rattle.register.specs.Distributor.{locateDistributor}
 use Rattle.register.specs.CpuInterface.{locateCpuInterface, registerAt}
+use Rattle.word.specs.Word.{bitOf, wordOf}
 use Rattle.state.specs.declared.layout.Shape.{Shape}
 use Rattle.state.specs.declared.lent.Lent.{Lent}
 use Rattle.state.specs.declared.lent.Lent.the-variants.{Sound, Broken}
 use Rattle.state.specs.Lent.{validated}
-use Rattle.state.specs.Words.{RecordThere, changed, enabledAt}
+use Rattle.state.specs.Words.{RecordThere, recordAt, changed, enabledAt}
 use Rattle.state.proofs.Tests.{left-true, not-below}
 use Rattle.state.proofs.Validated.{held-validated}
 use Rattle.service.specs.Service as service
@@ -44,9 +45,10 @@ use Rattle.input.specs.declared.InputNumber.{InputNumber}
 use Rattle.input.specs.declared.InputNumber.the-variants.{Device, Outside}
 use Rattle.input.specs.Input.{signalled, inputOf, inputAt, deviceInput}
 use Rattle.input.proofs.Passed.{input-there}
+use Rattle.look.specs.Look.{lineLevel, irqLevel, interruptWord}
 use Rattle.lawful.specs.Lawful.{Controls}
 use Rattle.history.specs.Refusals.{refusals, listed}
-use Rattle.history.specs.History.{Ordinary, Call, Setup, ReadDistributor, WriteDistributor, ReadCpuInterface, WriteCpuInterface, SetLevel, Pulse, Looks, ReadsRegister, WritesRegister, WritesPlace, Signals, Deed, Starts, Acts, deed, startsAnew, isSetup, called}
+use Rattle.history.specs.History.{Ordinary, Call, Setup, ReadDistributor, WriteDistributor, ReadCpuInterface, WriteCpuInterface, SetLevel, Pulse, IrqLevel, InterruptWord, Looks, ReadsRegister, WritesRegister, WritesPlace, Signals, Deed, Starts, Acts, deed, startsAnew, isSetup, called}
 use Rattle.register.specs.declared.frame.Refusal.{Refusal}
 use Rattle.register.specs.Frame.{refusalNumber, isDword, inFrame}
 use Rattle.state.specs.declared.lent.Limited.the-variants.{Outside}
@@ -141,6 +143,8 @@ setup-or-other P setup other (ReadCpuInterface v offset width) = other (ReadCpuI
 setup-or-other P setup other (WriteCpuInterface v offset width value) = other (WriteCpuInterface v offset width value) refl
 setup-or-other P setup other (SetLevel v n asserted) = other (SetLevel v n asserted) refl
 setup-or-other P setup other (Pulse v n) = other (Pulse v n) refl
+setup-or-other P setup other (IrqLevel v) = other (IrqLevel v) refl
+setup-or-other P setup other (InterruptWord v n) = other (InterruptWord v n) refl
 
 pub valid : (shape : Shape) (s : List ℕ) → Controls shape s → validated s ≡ Sound shape
 valid shape s h = held-validated s shape (h .lawful .in-range)
@@ -239,8 +243,12 @@ module _ (shape : Shape) (s : List ℕ) (h : validated s ≡ Sound shape) (P : C
       (λ q. signal-barred v n signal (λ there past. q (λ low. there .banked (rw (is .0) at (ltb-true (k .0) 32 low)))))
       (λ e. rw (is .0) (signals c v n signal (subst (RecordThere shape v) (is .0) (input-there shape v n k p e)) (is .1)))
 
+  -- a host's look
+  look : (c : Call) → listed 3 (refusals c) ≡ true → (v : ℕ) (looksUp : Bool) (x : ℕ) → P c (Acts (Looks none)) (lookedUp looksUp shape v s (gave x s))
+  look c by-3 v looksUp x = looked c (Acts (Looks none)) (record { ordinary = few (omega arith); of-call = by-3 }) looksUp v (gave x s) (λ q. tt) (λ e. looks c none x)
+
   pub each-call : (c : Call) → isSetup c ≡ false → P c (deed c) (called c s)
-  unfolding readV2Distributor writeV2Distributor readV2CpuInterface writeV2CpuInterface deviceInput
+  unfolding readV2Distributor writeV2Distributor readV2CpuInterface writeV2CpuInterface deviceInput irqLevel interruptWord
   each-call (Setup count limit) e = absurd (true≢false e)
   each-call (ReadDistributor v offset width) e = rw h (distributor-read (ReadDistributor v offset width) (access refl) v offset width (locateDistributor offset width) refl)
   each-call (WriteDistributor v offset width value) e =
@@ -250,10 +258,16 @@ module _ (shape : Shape) (s : List ℕ) (h : validated s ≡ Sound shape) (P : C
       rw h (interface-write (WriteCpuInterface v offset width value) (access refl) v (locateCpuInterface offset width) (value % 2 ^ 32) (interface-access offset width))
   each-call (SetLevel v n asserted) e = rw h (input (SetLevel v n asserted) refl refl v n (Level asserted) (inputOf shape n) refl (input-is shape n))
   each-call (Pulse v n) e = rw h (input (Pulse v n) refl refl v n Edge (inputOf shape n) refl (input-is shape n))
+  each-call (IrqLevel v) e = rw h (look (IrqLevel v) refl v true (bitOf (lineLevel shape v s)))
+  each-call (InterruptWord v n) e = rw h (at-number (ltb n (shape .limit)))
+    where
+      at-number : (b : Bool) → P (InterruptWord v n) (Acts (Looks none)) (cond b (lookedUp (ltb n 32) shape v s (gave (wordOf (recordAt shape v n s)) s)) (gave 0 s))
+      at-number true = look (InterruptWord v n) refl v (ltb n 32) (wordOf (recordAt shape v n s))
+      at-number false = looks (InterruptWord v n) none 0
 
 -- words that are no state are refused by 6
 pub broken-call : (c : Call) → isSetup c ≡ false → (s : List ℕ) → validated s ≡ Broken → (called c s ≡ refused refusal.BrokenState s) × (listed 6 (refusals c) ≡ true)
-unfolding readV2Distributor writeV2Distributor readV2CpuInterface writeV2CpuInterface deviceInput
+unfolding readV2Distributor writeV2Distributor readV2CpuInterface writeV2CpuInterface deviceInput irqLevel interruptWord
 broken-call (Setup count limit) e s p = absurd (true≢false e)
 broken-call (ReadDistributor v offset width) e s p = (rw p refl, refl)
 broken-call (WriteDistributor v offset width value) e s p = (rw p refl, refl)
@@ -261,6 +275,8 @@ broken-call (ReadCpuInterface v offset width) e s p = (rw p refl, refl)
 broken-call (WriteCpuInterface v offset width value) e s p = (rw p refl, refl)
 broken-call (SetLevel v n asserted) e s p = (rw p refl, refl)
 broken-call (Pulse v n) e s p = (rw p refl, refl)
+broken-call (IrqLevel v) e s p = (rw p refl, refl)
+broken-call (InterruptWord v n) e s p = (rw p refl, refl)
 
 -- to any words at all
 pub any-words : (s : List ℕ) (P : Call → Outcome → Type 0) → ((c : Call) → listed 6 (refusals c) ≡ true → P c (refused refusal.BrokenState s))

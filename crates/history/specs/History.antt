@@ -3,7 +3,7 @@
 use mathlib.Core.Bool.{Bool, true, false, not, _&&_}
 use mathlib.Core.Path.{_≡_}
 use mathlib.Core.List.{List, [], _∷_}
-use mathlib.Core.Option.{Option, some}
+use mathlib.Core.Option.{Option, none, some}
 use Prim.Native.Nat.{ℕ, _%_, _^_}
 use Rattle.register.specs.declared.frame.AccessWidth.{AccessWidth}
 use Rattle.register.specs.declared.frame.AccessWidth.the-variants.{Dword}
@@ -18,8 +18,10 @@ use Rattle.cpu_interface_frame.specs.CpuInterfaceFrame.{readV2CpuInterface, wri
 use Rattle.input.specs.declared.Signal.{Signal}
 use Rattle.input.specs.declared.Signal.the-variants.{Level, Edge}
 use Rattle.input.specs.Input.{deviceLevel, devicePulse}
+use Rattle.look.specs.Look.{irqLevel, interruptWord}
 
--- count and limit; vCPU, offset, width and, to write, value; for inputs vCPU, number and, for a line, its level
+-- count and limit; vCPU, offset, width and, to write, value; for inputs vCPU, number and, for a line, its level; a vCPU, and
+-- an interrupt's number, to look at
 pub data Call : Type 0 where
   Setup : ℕ → ℕ → Call
   ReadDistributor : ℕ → ℕ → AccessWidth → Call
@@ -28,6 +30,8 @@ pub data Call : Type 0 where
   WriteCpuInterface : ℕ → ℕ → AccessWidth → ℕ → Call
   SetLevel : ℕ → ℕ → Bool → Call
   Pulse : ℕ → ℕ → Call
+  IrqLevel : ℕ → Call
+  InterruptWord : ℕ → ℕ → Call
 
 -- its numbers, of 64 bits each
 abbrev pub numbers : Call → List ℕ
@@ -38,6 +42,8 @@ numbers (ReadCpuInterface v offset width) = v ∷ offset ∷ []
 numbers (WriteCpuInterface v offset width value) = v ∷ offset ∷ value ∷ []
 numbers (SetLevel v n asserted) = v ∷ n ∷ []
 numbers (Pulse v n) = v ∷ n ∷ []
+numbers (IrqLevel v) = v ∷ []
+numbers (InterruptWord v n) = v ∷ n ∷ []
 
 -- what it does
 abbrev pub called : Call → List ℕ → Outcome
@@ -48,6 +54,8 @@ called (ReadCpuInterface v offset width) s = readV2CpuInterface v offset width s
 called (WriteCpuInterface v offset width value) s = writeV2CpuInterface v offset width value s
 called (SetLevel v n asserted) s = deviceLevel v n asserted s
 called (Pulse v n) s = devicePulse v n s
+called (IrqLevel v) s = irqLevel v s
+called (InterruptWord v n) s = interruptWord v n s
 
 -- What kind of call it is: what is said of calls goes by this, and not by the calls. A call acts on the controller that is lent: it
 pub data Action : Type 0 where
@@ -76,6 +84,8 @@ deed (ReadCpuInterface v offset width) = Acts (ReadsRegister v (locateCpuInterfa
 deed (WriteCpuInterface v offset width value) = Acts (WritesRegister v (locateCpuInterface offset width) (value % 2 ^ 32))
 deed (SetLevel v n asserted) = Acts (Signals v n (Level asserted))
 deed (Pulse v n) = Acts (Signals v n Edge)
+deed (IrqLevel v) = Acts (Looks none)
+deed (InterruptWord v n) = Acts (Looks none)
 
 abbrev pub startsAnew : Deed → Bool
 startsAnew (Starts count limit) = true

@@ -1,11 +1,12 @@
 -- Every call on a state goes through a change of lent words that the slots do not see: it hands out the same, and leaves the changed words as it
 -- would have left the others, changed. Assumes nothing.
-use mathlib.Core.Path.{_≡_, refl}
-use mathlib.Core.Bool.{true, Bool, true≢false, false}
+use mathlib.Core.Path.{_≡_, refl, ap}
+use mathlib.Core.Bool.{true, Bool, cond, true≢false, false}
 use mathlib.Core.List.{List}
 use Prim.Native.Nat.{ℕ, _%_, _^_}
 use native.Mathlib.Omega.{arith}
 use lib.Dec.{ltb}
+use borrow.Author.Tests.{ltb-true, lt-ltb}
 use Rattle.register.specs.declared.frame.AccessWidth.{AccessWidth}
 use Rattle.register.specs.declared.frame.Refusal.the-variants as refusal
 use Rattle.register.specs.declared.ranges.Class.{Class}
@@ -15,9 +16,10 @@ use Rattle.register.specs.declared.distributor.DistributorAccess.{DistributorAc
 use Rattle.register.specs.declared.distributor.DistributorAccess.the-variants as distributor
 use Rattle.register.specs.Distributor.{locateDistributor}
 use Rattle.register.specs.Frame.{bytes}
+use Rattle.word.specs.Word.{bitOf, wordOf}
 use Rattle.state.specs.declared.layout.Shape.{Shape}
 use Rattle.state.specs.Layout.{DistributorControl}
-use Rattle.state.specs.Words.{keptDistributorControl, changed, enabledAt}
+use Rattle.state.specs.Words.{keptDistributorControl, RecordThere, recordAt, changed, enabledAt}
 use Rattle.state.proofs.Places.{Inner}
 use Rattle.state.proofs.Steps.{Agree}
 use Rattle.service.specs.Service.{Sound}
@@ -31,7 +33,7 @@ use Rattle.input.specs.declared.InputNumber.{InputNumber}
 use Rattle.input.specs.declared.InputNumber.the-variants.{Device, Outside}
 use Rattle.input.specs.Input.{signalled, inputOf, inputAt, deviceInput}
 use Rattle.input.proofs.Passed.{input-there, changed-sound}
-use Rattle.reach.proofs.Readings.{control-alike, enabled-alike, bits-alike, bytes-alike}
+use Rattle.reach.proofs.Readings.{record-alike, control-alike, enabled-alike, bits-alike, bytes-alike, acknowledge-alike}
 use Rattle.reach.proofs.Around.{Around, Passes, none-passes, if-through, put-through, changed-through}
 use Rattle.reach.proofs.Distributor.{bits-through, bytes-through, sgir-through}
 use Rattle.reach.proofs.Outcomes.{Carries, refused-carries, gave-carries, looked-carries, went-carries, with-carries}
@@ -41,13 +43,16 @@ use Rattle.register.specs.CpuInterface.{locateCpuInterface}
 use Rattle.state.specs.Lent.{validated}
 use Rattle.state.specs.declared.lent.Lent.the-variants as lent
 use Rattle.service.proofs.Soundness.{validated-sound}
-use Rattle.answer.specs.Answer.{Outcome, onState, lookedUp}
+use Rattle.answer.specs.Answer.{Outcome, gave, onState, absent, lookedUp}
 use Rattle.answer.proofs.Present.{present}
 use Rattle.cpu_interface.specs.CpuInterface.{readRegister, afterRead, writeRegister, writeRetired, readRegisterLooksUp, writeRegisterLooksUp}
 use Rattle.cpu_interface_frame.specs.CpuInterfaceFrame.{readAnswer, readInterfaceAccess, writeInterfaceAccess, readV2CpuInterface, writeV2CpuInterface}
 use Rattle.delivery.proofs.Sounds.{write-sound}
+use Rattle.acknowledge.specs.declared.Read.{Read}
+use Rattle.wake.specs.Wake.{givesNumber}
+use Rattle.look.specs.Look.{lineLevel, interruptAt, irqLevel, interruptWord}
 use Rattle.input.specs.declared.Signal.the-variants.{Level, Edge}
-use Rattle.history.specs.History.{Call, Setup, ReadDistributor, WriteDistributor, ReadCpuInterface, WriteCpuInterface, SetLevel, Pulse, isSetup, called}
+use Rattle.history.specs.History.{Call, Setup, ReadDistributor, WriteDistributor, ReadCpuInterface, WriteCpuInterface, SetLevel, Pulse, IrqLevel, InterruptWord, isSetup, called}
 use Rattle.reach.proofs.Registers.{register-read, register-written}
 
 module _ {shape : Shape} {wrap : List ℕ → List ℕ} (around : Around shape wrap) (s : List ℕ) (h : Sound shape s) where
@@ -129,6 +134,24 @@ module _ {shape : Shape} {wrap : List ℕ → List ℕ} (around : Around shape w
       let w = register-written around s h v value register looked in
       went-carries around s h (writeRetired shape v register value) (writeRegister shape v register value) (w .alike) (w .passes) (write-sound shape v s h register value looked))
 
+  -- a host's look
+  level-look : (v : ℕ) → Carries wrap (λ r. lookedUp true shape v r (gave (bitOf (lineLevel shape v r)) r)) s
+  level-look v =
+      looked-carries s shape v true
+      (λ e.
+      let exists = present true shape v e refl in
+      gave-carries s (λ r. bitOf (lineLevel shape v r)) (ap (λ (a : Read). bitOf (givesNumber a)) (acknowledge-alike same v exists (h .depths v exists))))
+
+  interrupt-look : (v n : ℕ) → Carries wrap (interruptAt shape v n) s
+  interrupt-look v n = go (ltb n (shape .limit)) refl
+    where
+      there : ltb n (shape .limit) ≡ true → absent (ltb n 32) shape v ≡ false → RecordThere shape v n
+      there e q = record { numbered = ltb-true n (shape .limit) e; banked = λ low. present (ltb n 32) shape v q (lt-ltb n 32 low) }
+
+      go : (b : Bool) → ltb n (shape .limit) ≡ b → Carries wrap (λ r. cond b (lookedUp (ltb n 32) shape v r (gave (wordOf (recordAt shape v n r)) r)) (gave 0 r)) s
+      go true e = looked-carries s shape v (ltb n 32) (λ q. gave-carries s (λ r. wordOf (recordAt shape v n r)) (ap wordOf (record-alike same v n (there e q))))
+      go false e = gave-carries s (λ r. 0) refl
+
 -- words that pass the test of refusal 6 before the change and after it
 module _ {shape : Shape} {wrap : List ℕ → List ℕ} (around : Around shape wrap) (s : List ℕ) (valid : validated s ≡ lent.Sound shape) (too : validated (wrap s) ≡ lent.Sound shape) where
   on-state : (f : Shape → List ℕ → Outcome) → Carries wrap (f shape) s → Carries wrap (λ r. onState (validated r) r (λ k. f k r)) s
@@ -138,7 +161,7 @@ module _ {shape : Shape} {wrap : List ℕ → List ℕ} (around : Around shape w
   sound = validated-sound shape s valid
 
   pub call-carries : (c : Call) → isSetup c ≡ false → Carries wrap (called c) s
-  unfolding readV2Distributor writeV2Distributor readV2CpuInterface writeV2CpuInterface deviceInput
+  unfolding readV2Distributor writeV2Distributor readV2CpuInterface writeV2CpuInterface deviceInput irqLevel interruptWord
   call-carries (Setup count limit) e = absurd (true≢false e)
   call-carries (ReadDistributor v offset width) e =
       on-state (λ k. readDistributorAccess k v (locateDistributor offset width) width) (distributor-read around s sound v offset width (locateDistributor offset width) refl)
@@ -150,3 +173,5 @@ module _ {shape : Shape} {wrap : List ℕ → List ℕ} (around : Around shape w
       on-state (λ k. writeInterfaceAccess k v (locateCpuInterface offset width) (value % 2 ^ 32)) (interface-write around s sound v (value % 2 ^ 32) (locateCpuInterface offset width))
   call-carries (SetLevel v n asserted) e = on-state (λ k. inputAt k v (Level asserted) (inputOf k n)) (input around s sound v n (Level asserted) (inputOf shape n) refl)
   call-carries (Pulse v n) e = on-state (λ k. inputAt k v Edge (inputOf k n)) (input around s sound v n Edge (inputOf shape n) refl)
+  call-carries (IrqLevel v) e = on-state (λ k r. lookedUp true k v r (gave (bitOf (lineLevel k v r)) r)) (level-look around s sound v)
+  call-carries (InterruptWord v n) e = on-state (λ k. interruptAt k v n) (interrupt-look around s sound v n)

@@ -16,6 +16,7 @@ use Rattle.answer.specs.Answer.{Outcome, refused}
 use Rattle.distributor_frame.specs.DistributorFrame.{readV2Distributor, writeV2Distributor}
 use Rattle.cpu_interface_frame.specs.CpuInterfaceFrame.{readV2CpuInterface, writeV2CpuInterface}
 use Rattle.input.specs.Input.{deviceLevel, devicePulse}
+use Rattle.look.specs.Look.{irqLevel, interruptWord}
 use Rattle.controller.specs.Start.{setup}
 
 -- bits 0 to 31 the value, 32 to 47 the retired number, 48 to 55 the wake set, 56 to 63 the refusal
@@ -58,6 +59,12 @@ VgicSetLevel v n asserted before number after = PacksTo number after (deviceLeve
 
 abbrev pub VgicPulse : ℕ → ℕ → List ℕ → ℕ → List ℕ → Type 0
 VgicPulse v n before number after = PacksTo number after (devicePulse v n before)
+
+abbrev pub VgicIrqLevel : ℕ → List ℕ → ℕ → List ℕ → Type 0
+VgicIrqLevel v before number after = PacksTo number after (irqLevel v before)
+
+abbrev pub VgicInterrupt : ℕ → ℕ → List ℕ → ℕ → List ℕ → Type 0
+VgicInterrupt v n before number after = PacksTo number after (interruptWord v n before)
 
 -- how many words a state takes, 0 where count or limit is out of range
 abbrev pub sizeOf : Limited → ℕ

@@ -3,7 +3,7 @@ ghost use mathlib.Core.Path.{_≡_};
 ghost use mathlib.Core.List.{List};
 ghost use Prim.Native.Nat.{ℕ};
 ghost use Rattle.answer.specs.Answer.{outcome};
-ghost use Rattle.vgic.specs.Packed.{packedAnswer, stateWords, VgicSetup, VgicReadDistributor, VgicWriteDistributor, VgicReadCpuInterface, VgicWriteCpuInterface, VgicSetLevel, VgicPulse};
+ghost use Rattle.vgic.specs.Packed.{packedAnswer, stateWords, VgicSetup, VgicReadDistributor, VgicWriteDistributor, VgicReadCpuInterface, VgicWriteCpuInterface, VgicSetLevel, VgicPulse, VgicIrqLevel, VgicInterrupt};
 use controller::Answer;
 use interrupt::GicVcpuId;
 use register::AccessWidth;
@@ -122,4 +122,18 @@ pub extern "C" fn vgic_pulse(words: &mut [u32], vcpu: u64, number: u64) -> u64
     ensures { λ r. ⌜ VgicPulse vcpu number (now (words .entry)) r (now (words .exit)) ⌝ }
 {
     packed(controller::pulse(words, GicVcpuId(vcpu as usize), number))
+}
+
+#[no_mangle]
+pub extern "C" fn vgic_irq_level(words: &[u32], vcpu: u64) -> u64
+    ensures { λ r. ⌜ VgicIrqLevel vcpu (now (words .entry)) r (now (words .entry)) ⌝ }
+{
+    packed(controller::irq_level(words, GicVcpuId(vcpu as usize)))
+}
+
+#[no_mangle]
+pub extern "C" fn vgic_interrupt(words: &[u32], vcpu: u64, number: u64) -> u64
+    ensures { λ r. ⌜ VgicInterrupt vcpu number (now (words .entry)) r (now (words .entry)) ⌝ }
+{
+    packed(controller::interrupt_word(words, GicVcpuId(vcpu as usize), number))
 }

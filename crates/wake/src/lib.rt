@@ -32,7 +32,7 @@ fn ready(words: &[u32], shape: Shape, vcpu: GicVcpuId) -> bool
     }
 }
 
-fn answers_so(words: &[u32], shape: Shape, vcpu: GicVcpuId, answer: IarAnswer) -> bool
+pub fn answers_so(words: &[u32], shape: Shape, vcpu: GicVcpuId, answer: IarAnswer) -> bool
     requires { ⌜ Served shape (vcpu .0) (now words) ⌝ }
     ensures { λ r. ⌜ r ≡ answersSo answer shape (now (words .entry)) (vcpu .0) ⌝ }
 {
