@@ -14,9 +14,7 @@ use Rattle.word.proofs.Gathered.{gathered-field, gathered-fits}
 use Rattle.word.proofs.RecordWord.{bit-fits, bit-back}
 use Rattle.register.specs.declared.frame.AccessWidth.the-variants.{Dword}
 use Rattle.register.specs.declared.frame.Refusal.the-variants.{Vcpu, FullStack}
-use Rattle.register.specs.declared.«cpu_interface».CpuInterfaceAccess.the-variants as interface
-use Rattle.register.specs.declared.«cpu_interface».CpuInterfaceRegister.the-variants.{Iar, Aiar}
-use Rattle.register.specs.CpuInterface.{registers, registerIn, registerAt, locateCpuInterface}
+use Rattle.register.proofs.Named.{iar-at, aiar-at}
 use Rattle.state.specs.declared.layout.Shape.{Shape}
 use Rattle.state.specs.declared.lent.Lent.{Lent}
 use Rattle.state.specs.declared.lent.Lent.the-variants as lent
@@ -49,14 +47,6 @@ use Rattle.history.proofs.Calls.{call-valid}
 use Rattle.history.proofs.Each.{some-refusal, valid, broken-call, any-words, each-call}
 use Rattle.levels.specs.Levels.{toldLevel, rises, wakeBit, lacksRoom}
 use Rattle.levels.proofs.Falls.{falls, own-falls}
-
-iar-at : locateCpuInterface 0x0c Dword ≡ interface.At Iar
-unfolding locateCpuInterface registerAt registerIn registers
-iar-at = refl
-
-aiar-at : locateCpuInterface 0x20 Dword ≡ interface.At Aiar
-unfolding locateCpuInterface registerAt registerIn registers
-aiar-at = refl
 
 -- a read of AIAR is a read of IAR
 pub aiar-is-iar : (v : ℕ) (s : List ℕ) → called (ReadCpuInterface v 0x20 Dword) s ≡ called (iarRead v) s

@@ -2,6 +2,7 @@
 pub mod Access
 pub mod Corners
 pub mod Map
+pub mod Named
 pub mod Private
 pub mod Reach
 pub mod Table

@@ -14,9 +14,8 @@ use Rattle.register.specs.declared.distributor.DistributorAccess.the-variants a
 use Rattle.register.specs.declared.«cpu_interface».CpuInterfaceAccess.the-variants as interface
 use Rattle.register.specs.declared.«cpu_interface».CpuInterfaceRegister.the-variants.{Iar, Eoir, Dir}
 use Rattle.register.specs.declared.ranges.Class.the-variants.{Sgir}
-use Rattle.register.specs.CpuInterface.{registers, registerIn, registerAt, locateCpuInterface}
-use Rattle.register.specs.Distributor.{plain, single, locateInFrame, locateDistributor}
-use Rattle.register.specs.Ranges.{ranges, rangeIn, rangeAt}
+use Rattle.register.specs.Distributor.{plain}
+use Rattle.register.proofs.Named.{iar-at, eoir-at, dir-at, sgir-at}
 use Rattle.state.specs.declared.layout.Shape.{Shape}
 use Rattle.state.specs.Words.{RecordThere, enabledAt, changed}
 use Rattle.sgi.specs.declared.SgiTarget.{SgiTarget}
@@ -36,23 +35,6 @@ use Rattle.wake.specs.Wake.{isSpurious}
 use Rattle.history.specs.History.{Pulse, called, sgirWrite, iarRead, eoirWrite, dirWrite}
 use Rattle.history.proofs.Each.{valid}
 use Rattle.waiting.proofs.Accepted.{input-call, write-call}
-
--- where the registers are
-iar-at : locateCpuInterface 0x0c Dword ≡ interface.At Iar
-unfolding locateCpuInterface registerAt registerIn registers
-iar-at = refl
-
-eoir-at : locateCpuInterface 0x10 Dword ≡ interface.At Eoir
-unfolding locateCpuInterface registerAt registerIn registers
-eoir-at = refl
-
-dir-at : locateCpuInterface 0x1000 Dword ≡ interface.At Dir
-unfolding locateCpuInterface registerAt registerIn registers
-dir-at = refl
-
-sgir-at : locateDistributor 0xf00 Dword ≡ distributor.At (plain Sgir)
-unfolding locateDistributor locateInFrame single rangeAt rangeIn ranges
-sgir-at = refl
 
 -- a target that somebody is in names somebody
 named : (target : SgiTarget) (v t : ℕ) → includes target v t ≡ true → names target ≡ true
