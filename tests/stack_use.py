@@ -176,7 +176,9 @@ class Arm:
         size, data = (1 if code[loaded].name == "ldrb" else 2), tables["bytes"][section]
         rows = data[start : end if end is not None else len(data)]
         distances = {int.from_bytes(rows[at : at + size], "little") for at in range(0, len(rows) - size + 1, size)}
-        label = int(re.search(r"(?:0x)?([0-9a-f]+)$", code[first].operands)[1], 16)
+        # One disassembler writes where the first case is, another how far off.
+        off = re.search(r"#(-?\w+)$", code[first].operands)
+        label = code[first].address + int(off[1], 0) if off else int(re.search(r"(?:0x)?([0-9a-f]+)$", code[first].operands)[1], 16)
         return [(None, label + 4 * distance) for distance in distances]
     BRANCHES = r"b\.\w+|cbn?z|tbn?z"
 

@@ -1,0 +1,82 @@
+/*
+ * A guest's first steps from C without a C library, for a bare Arm machine: the scope document's example and a device's line. So that it
+ * can be run, it ends by Linux's exit: status 0, or the number of the first step that was not answered as expected.
+ */
+#include "vgic.h"
+
+enum { COUNT = 2, LIMIT = 40, WORDS = 3 + 307 * COUNT + (LIMIT - 32) };
+
+static uint32_t words[WORDS];
+static int step;
+
+_Noreturn static void leave(int status)
+{
+    register long x0 __asm__("x0") = status;
+    register long x8 __asm__("x8") = 93;
+
+    __asm__ volatile("svc 0" : : "r"(x0), "r"(x8) : "memory");
+    __builtin_unreachable();
+}
+
+static void expect(vgic_answer answer, enum vgic_refusal refusal, uint32_t value, uint8_t wake, uint16_t retired)
+{
+    step++;
+    if (vgic_answer_refusal(answer) != refusal || vgic_answer_value(answer) != value || vgic_answer_wake(answer) != wake ||
+        vgic_answer_retired(answer) != retired)
+        leave(step);
+}
+
+static void expect_done(vgic_answer answer)
+{
+    expect(answer, VGIC_ACCEPTED, 0, 0, VGIC_SPURIOUS);
+}
+
+static vgic_answer distributor(uint64_t offset, uint64_t width, uint64_t value)
+{
+    return vgic_write_v2_distributor(words, WORDS, 0, offset, width, value);
+}
+
+static vgic_answer interface(uint64_t offset, uint64_t value)
+{
+    return vgic_write_v2_cpu_interface(words, WORDS, 1, offset, 4, value);
+}
+
+static vgic_answer acknowledge(void)
+{
+    return vgic_read_v2_cpu_interface(words, WORDS, 1, 12, 4);
+}
+
+/* vCPU 0 sends SGI 5 to vCPU 1, which takes and ends it. */
+static void software_interrupt(void)
+{
+    expect_done(vgic_setup(words, WORDS, COUNT, LIMIT));
+    expect_done(distributor(0, 4, 1));
+    expect_done(interface(0, 1));
+    expect_done(interface(4, 255));
+    expect(distributor(3840, 4, 131077), VGIC_ACCEPTED, 0, 2, VGIC_SPURIOUS);
+    expect(acknowledge(), VGIC_ACCEPTED, 5, 0, VGIC_SPURIOUS);
+    expect(acknowledge(), VGIC_ACCEPTED, VGIC_SPURIOUS, 0, VGIC_SPURIOUS);
+    expect(interface(16, 5), VGIC_ACCEPTED, 0, 0, 5);
+    expect(vgic_read_v2_distributor(words, WORDS, 0, 2048, 8), VGIC_REFUSED_WIDTH, 0, 0, VGIC_SPURIOUS);
+}
+
+/* SPI 33 goes to vCPU 1: its line rises, it is taken and ended, comes again as the line is held, and is pulsed once the line is down. */
+static void device(void)
+{
+    expect_done(distributor(2081, 1, 2));
+    expect_done(distributor(260, 4, 2));
+    expect(vgic_set_level(words, WORDS, 0, 33, true), VGIC_ACCEPTED, 0, 2, VGIC_SPURIOUS);
+    expect(acknowledge(), VGIC_ACCEPTED, 33, 0, VGIC_SPURIOUS);
+    expect(interface(16, 33), VGIC_ACCEPTED, 0, 2, 33);
+    expect_done(vgic_set_level(words, WORDS, 0, 33, false));
+    expect(vgic_pulse(words, WORDS, 0, 33), VGIC_ACCEPTED, 0, 2, VGIC_SPURIOUS);
+}
+
+void _start(void)
+{
+    if (vgic_state_words(COUNT, LIMIT) != WORDS)
+        leave(100);
+    software_interrupt();
+    device();
+    leave(0);
+}
