@@ -4,9 +4,10 @@
 usage: tests/object_code.py FILE    an archive or an object
 
 Refused are: an instruction with a vector or floating register, a system instruction that is neither a hint, a barrier nor a trap, a word of
-code that is no instruction, a relocation that is not direct (by a table of addresses, or in a thread's own data), a symbol that no member
-defines, an archive whose index is not of what it exports, an object that is not for Arm, and a file without code. Data between
-instructions is told by the mapping symbols $x and $d.
+code that is no instruction, an access at a distance that is no multiple of its size (as compiled where unaligned accesses are fine; those
+by a register that is not aligned are not seen), a relocation that is not direct (by a table of addresses, or in a thread's own data), a
+symbol that no member defines, an archive whose index is not of what it exports, an object that is not for Arm, and a file without code.
+Data between instructions is told by the mapping symbols $x and $d.
 """
 import struct
 import sys
@@ -40,7 +41,8 @@ def fault(word):
     if group & 0b0111 == 0b0111 or group == 0b0010 or (group == 0 and word >> 31):  # SIMD and floating point, SVE, SME
         return VECTOR
     if group & 0b0101 == 0b0100:  # loads and stores
-        return VECTOR if word >> 26 & 1 else None
+        off = word & 0x3B200C00 == 0x38000000 and (word >> 12 & 511) % (1 << (word >> 30))  # unscaled, with the distance in bits 12 to 20
+        return VECTOR if word >> 26 & 1 else "an unaligned access" if off else None
     if group & 0b1110 == 0b1010:  # branches and system
         return None if any(word & mask == value for mask, value in BRANCHES) else "a system instruction"
     general = group & 0b1110 == 0b1000 or group & 0b0111 == 0b0101  # data processing, immediate and register
@@ -117,8 +119,8 @@ def main(path):
         raise Refused("no code")
     faults = [(fault(word), place, word) for place, word in code if fault(word)]
     if faults:
-        what, place, word = faults[0]
-        raise Refused(f"{what}: {word:#010x} at {place}, the first of {len(faults)}")
+        what, place, word = next((it for it in faults if it[0] == VECTOR), faults[0])
+        raise Refused(f"{what}: {word:#010x} at {place}, the first of {sum(it[0] == what for it in faults)}")
     indirect = {kind for one in objects for kind in one.relocations() if kind not in DIRECT}
     if indirect:
         raise Refused(f"a relocation that is not direct, of type {min(indirect)}")
