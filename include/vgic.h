@@ -64,14 +64,60 @@ static inline uint16_t vgic_answer_retired(vgic_answer answer)
     return (uint16_t)(answer >> 32);
 }
 
+/* The layout of the words. It changes when a kept state of an earlier version means something else: keep it beside words that you keep. */
+#define VGIC_LAYOUT 1
+
 /*
  * How many words a state takes: `count` is 1 to 8 vCPUs, and `limit`, 32 to 1020, the first number that is no interrupt. 0 where one of
- * them is out of range. At most 3447.
+ * them is out of range. At most VGIC_STATE_WORDS_MAX.
  */
 uint64_t vgic_state_words(uint64_t count, uint64_t limit);
 
+#define VGIC_STATE_WORDS_MAX 3447
+
+/*
+ * The same, and of constants a constant: it sizes an array, and may stand in #if. Out of range it is 0 too, which is no array's size in C
+ * and C++ (gcc and clang let it pass without -Wpedantic; then vgic_setup refuses it). An argument may be evaluated several times.
+ */
+#define VGIC_STATE_WORDS(count, limit) \
+    ((count) >= 1 && (count) <= 8 && (limit) >= 32 && (limit) <= 1020 ? 3 + (52 + 255) * (count) + ((limit) - 32) : 0)
+
 /* Makes the words a fresh state. Refused by 4, then by 5. */
 vgic_answer vgic_setup(uint32_t *words, size_t length, uint64_t count, uint64_t limit);
+
+/* Where the registers stand, in bytes from the start of a frame (Arm IHI 0048): the Distributor's. */
+#define VGIC_GICD_CTLR 0x000u       /* control: bit 0 turns it on */
+#define VGIC_GICD_TYPER 0x004u      /* how many vCPUs and interrupts there are */
+#define VGIC_GICD_IIDR 0x008u       /* who made it */
+#define VGIC_GICD_IGROUPR 0x080u    /* groups, one bit for each interrupt; they read 0 */
+#define VGIC_GICD_ISENABLER 0x100u  /* set enables */
+#define VGIC_GICD_ICENABLER 0x180u  /* clear enables */
+#define VGIC_GICD_ISPENDR 0x200u    /* set pending */
+#define VGIC_GICD_ICPENDR 0x280u    /* clear pending */
+#define VGIC_GICD_ISACTIVER 0x300u  /* set active */
+#define VGIC_GICD_ICACTIVER 0x380u  /* clear active */
+#define VGIC_GICD_IPRIORITYR 0x400u /* priorities, a byte for each interrupt */
+#define VGIC_GICD_ITARGETSR 0x800u  /* targets, a byte for each interrupt with a bit for each vCPU */
+#define VGIC_GICD_ICFGR 0xc00u      /* triggers, two bits for each interrupt */
+#define VGIC_GICD_SGIR 0xf00u       /* sends an SGI */
+#define VGIC_GICD_CPENDSGIR 0xf10u  /* clear the sources of SGIs, a byte for each */
+#define VGIC_GICD_SPENDSGIR 0xf20u  /* set the sources of SGIs, a byte for each */
+
+/* And a CPU interface's. */
+#define VGIC_GICC_CTLR 0x000u   /* control: bit 0 turns it on, bit 9 is the EOI mode */
+#define VGIC_GICC_PMR 0x004u    /* the priority that an interrupt has to be below */
+#define VGIC_GICC_BPR 0x008u    /* binary point */
+#define VGIC_GICC_IAR 0x00cu    /* a read acknowledges an interrupt */
+#define VGIC_GICC_EOIR 0x010u   /* ends an interrupt, or in EOI mode drops its priority */
+#define VGIC_GICC_RPR 0x014u    /* the priority under service */
+#define VGIC_GICC_HPPIR 0x018u  /* the best that is pending */
+#define VGIC_GICC_ABPR 0x01cu   /* the binary point by another name */
+#define VGIC_GICC_AIAR 0x020u   /* IAR by another name */
+#define VGIC_GICC_AEOIR 0x024u  /* EOIR by another name */
+#define VGIC_GICC_AHPPIR 0x028u /* HPPIR by another name */
+#define VGIC_GICC_APR 0x0d0u    /* reads 0 */
+#define VGIC_GICC_IIDR 0x0fcu   /* who made it */
+#define VGIC_GICC_DIR 0x1000u   /* deactivates an interrupt */
 
 /*
  * The four accesses of a guest. `vcpu` is who makes it, `offset` counts bytes from the start of the frame (0x1000 long, a CPU interface
@@ -101,6 +147,45 @@ vgic_answer vgic_set_level(uint32_t *words, size_t length, uint64_t vcpu, uint64
 
 /* A device pulses its line. */
 vgic_answer vgic_pulse(uint32_t *words, size_t length, uint64_t vcpu, uint64_t number);
+
+/* Two questions, which change nothing. */
+
+/* Whether a read of IAR by this vCPU would now give an interrupt, so whether its IRQ line is up: value 1 or 0. Refused by 6, then 3. */
+vgic_answer vgic_irq_level(const uint32_t *words, size_t length, uint64_t vcpu);
+
+/*
+ * One interrupt as it stands, in a word: a private one (0 to 31) of this vCPU, or an SPI (from 32), for which the vCPU does not matter.
+ * From the limit up there is none, and the word is 0. Refused by 6, then 3.
+ */
+vgic_answer vgic_interrupt(const uint32_t *words, size_t length, uint64_t vcpu, uint64_t number);
+
+/* The flags of such a word. */
+#define VGIC_INTERRUPT_ENABLED 0x01u    /* the guest has enabled it */
+#define VGIC_INTERRUPT_PENDING 0x02u    /* it waits to be taken */
+#define VGIC_INTERRUPT_ACTIVE 0x04u     /* it is under service */
+#define VGIC_INTERRUPT_INFLIGHT 0x08u   /* it was taken by a read of IAR, and its service has not ended */
+#define VGIC_INTERRUPT_REDELIVERY 0x10u /* it came again while it was in flight, and is to be given again */
+#define VGIC_INTERRUPT_LINE 0x20u       /* its device holds its line up */
+#define VGIC_INTERRUPT_EDGE 0x40u       /* it is edge-triggered, not level-sensitive */
+#define VGIC_INTERRUPT_TARGETED 0x80u   /* its targets were written */
+
+/* Its priority; 0 is the most urgent. */
+static inline uint8_t vgic_interrupt_priority(uint32_t word)
+{
+    return (uint8_t)(word >> 8);
+}
+
+/* The vCPUs that an SPI is offered to, a bit for each; 0 as long as none were written. */
+static inline uint8_t vgic_interrupt_targets(uint32_t word)
+{
+    return (uint8_t)(word >> 16);
+}
+
+/* Who has taken it, while it is in flight; -1 for nobody. */
+static inline int vgic_interrupt_owner(uint32_t word)
+{
+    return (int)(word >> 24) - 1;
+}
 
 #ifdef __cplusplus
 }

@@ -1,6 +1,6 @@
 //! What a call answers.
 use crate::{GicVcpuId, IntId};
-use std::{error::Error, fmt};
+use core::{error::Error, fmt};
 
 /// The vCPUs that a call wakes: those whose read of IAR gave nothing before it, and gives an interrupt now.
 #[derive(Clone, Copy, Debug, Default, PartialEq, Eq)]
@@ -8,6 +8,7 @@ pub struct WakeSet(u8);
 
 /// What an accepted call gives.
 #[derive(Clone, Copy, Debug, Default, PartialEq, Eq)]
+#[non_exhaustive]
 pub struct Reply {
     /// What was read; 0 for all but reads.
     pub value: u32,
@@ -19,23 +20,26 @@ pub struct Reply {
 
 /// Why a call was refused; the lent words are then as they were.
 #[derive(Clone, Copy, Debug, PartialEq, Eq)]
+#[non_exhaustive]
 pub enum Refusal {
     /// 1: the access is unaligned, or its end overflows or passes the frame.
-    Access = 1,
+    Access,
     /// 2: the width is not allowed at that register.
-    Width = 2,
+    Width,
     /// 3: there is no such vCPU.
-    Vcpu = 3,
+    Vcpu,
     /// 4: setup: the count is not 1 to 8, or the limit not 32 to 1020.
-    Limits = 4,
+    Limits,
     /// 5: setup: too few words are lent.
-    ShortState = 5,
+    ShortState,
     /// 6: the lent words are no controller's state.
-    BrokenState = 6,
+    BrokenState,
     /// 7: an interrupt cannot be acknowledged, since 255 are under service.
-    FullStack = 7,
+    FullStack,
     /// 8: no device has this number: it is an SGI's, or not below the limit.
-    Input = 8,
+    Input,
+    /// A number that has no name here: the linked library is later than this face.
+    Other(u8),
 }
 
 impl WakeSet {
@@ -50,8 +54,8 @@ impl WakeSet {
     }
 
     /// Whether this vCPU is to be woken.
-    pub fn contains(self, vcpu: GicVcpuId) -> bool {
-        vcpu.0 < 8 && self.0 >> vcpu.0 & 1 == 1
+    pub const fn contains(self, vcpu: GicVcpuId) -> bool {
+        vcpu.0 < 8 && self.0 & 1_u8.wrapping_shl(vcpu.0 as u32) != 0
     }
 
     /// The vCPUs that are to be woken.
@@ -63,13 +67,22 @@ impl WakeSet {
 }
 
 impl Refusal {
-    /// The scope document's number, 1 to 8.
+    /// The scope document's number, 1 to 8; any but 0 where the library is later than this face.
     pub const fn number(self) -> u8 {
-        self as u8
+        match self {
+            Self::Access => 1,
+            Self::Width => 2,
+            Self::Vcpu => 3,
+            Self::Limits => 4,
+            Self::ShortState => 5,
+            Self::BrokenState => 6,
+            Self::FullStack => 7,
+            Self::Input => 8,
+            Self::Other(number) => number,
+        }
     }
 
-    /// What has this number; the library gives no other.
-    fn from_number(number: u8) -> Self {
+    const fn from_number(number: u8) -> Self {
         match number {
             1 => Self::Access,
             2 => Self::Width,
@@ -79,7 +92,7 @@ impl Refusal {
             6 => Self::BrokenState,
             7 => Self::FullStack,
             8 => Self::Input,
-            _ => unreachable!("no refusal has the number {number}"),
+            other => Self::Other(other),
         }
     }
 }
@@ -95,6 +108,7 @@ impl fmt::Display for Refusal {
             Self::BrokenState => "the lent words are no controller's state",
             Self::FullStack => "255 interrupts are under service",
             Self::Input => "no device has this number",
+            Self::Other(number) => return write!(f, "refused by {number}"),
         })
     }
 }
@@ -102,16 +116,20 @@ impl fmt::Display for Refusal {
 impl Error for Refusal {}
 
 /// Takes the C face's one number apart.
-pub(crate) fn unpacked(answer: u64) -> Result<Reply, Refusal> {
-    let [low @ .., a, b, wake, refusal] = answer.to_le_bytes();
+pub(crate) const fn unpacked(answer: u64) -> Result<Reply, Refusal> {
+    let [v0, v1, v2, v3, low, high, wake, refusal] = answer.to_le_bytes();
     if refusal != 0 {
         return Err(Refusal::from_number(refusal));
     }
-    let retired = IntId(u16::from_le_bytes([a, b]).into());
+    let retired = IntId(u16::from_le_bytes([low, high]) as u64);
     Ok(Reply {
-        value: u32::from_le_bytes(low),
+        value: u32::from_le_bytes([v0, v1, v2, v3]),
         wake: WakeSet(wake),
-        retired: (retired != IntId::SPURIOUS).then_some(retired),
+        retired: if retired.0 == IntId::SPURIOUS.0 {
+            None
+        } else {
+            Some(retired)
+        },
     })
 }
 
@@ -131,19 +149,20 @@ mod tests {
             retired,
         };
         assert_eq!(unpacked(answer), Ok(reply));
-        assert_eq!(
-            wake.vcpus().collect::<Vec<_>>(),
-            [GicVcpuId(1), GicVcpuId(7)]
-        );
-        assert!(!wake.contains(GicVcpuId(0)) && !wake.contains(GicVcpuId(u64::MAX)));
+        assert!(wake.vcpus().eq([GicVcpuId(1), GicVcpuId(7)]));
+        for (vcpu, woken) in [(0, false), (1, true), (7, true), (8, false), (9, false)] {
+            assert_eq!(wake.contains(GicVcpuId(vcpu)), woken, "{vcpu}");
+        }
+        assert!(!WakeSet(u8::MAX).contains(GicVcpuId(u64::MAX)));
         assert_eq!(unpacked(1023 << 32).unwrap().retired, None);
     }
 
     #[test]
     fn every_refusal_has_its_number() {
-        for number in 1..=8 {
-            let refused = unpacked(u64::from(number) << 56 | 1023 << 32);
-            assert_eq!(refused.unwrap_err().number(), number);
+        for number in 1..=u8::MAX {
+            let refused = unpacked(u64::from(number) << 56 | 1023 << 32).unwrap_err();
+            assert_eq!(refused.number(), number);
+            assert_eq!(refused == Refusal::Other(number), number > 8, "{refused}");
         }
     }
 }

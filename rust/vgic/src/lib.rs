@@ -1,4 +1,5 @@
-//! A GICv2 interrupt controller for small Arm guests: the proved library `libvgic.a`, safe to call from Rust.
+//! A GICv2 interrupt controller for small Arm guests: the proved library `libvgic.a`, safe to call from Rust. It needs neither `std` nor a
+//! heap, and nothing in it panics.
 //!
 //! The caller lends the controller's whole state as words ([`Gic::lend`]) and has them back after each call. There is no call that is
 //! undefined: for any words, any length and any numbers each answers a [`Reply`] or a [`Refusal`], and a refused call leaves every word as
@@ -11,7 +12,8 @@
 //!
 //! # fn main() -> Result<(), Refusal> {
 //! // Two vCPUs, and interrupts below 40.
-//! let mut words = vec![0; vgic::state_words(2, 40).expect("in range")];
+//! const WORDS: usize = vgic::state_words(2, 40).expect("in range");
+//! let mut words = [0; WORDS];
 //! let mut gic = Gic::lend(&mut words);
 //! gic.setup(2, 40)?;
 //! let (first, second) = (GicVcpuId(0), GicVcpuId(1));
@@ -21,15 +23,21 @@
 //! gic.write_v2_cpu_interface(second, offset::GICC_CTLR, Dword, 1)?;
 //! gic.write_v2_cpu_interface(second, offset::GICC_PMR, Dword, 255)?;
 //!
-//! // vCPU 0 sends SGI 5 to vCPU 1, which has to be woken.
+//! // vCPU 0 sends SGI 5 to vCPU 1, which has to be woken: its IRQ line is up.
 //! let sent = gic.write_v2_distributor(first, offset::GICD_SGIR, Dword, 0x0002_0005)?;
-//! assert_eq!(sent.wake.vcpus().collect::<Vec<_>>(), [second]);
+//! assert!(sent.wake.vcpus().eq([second]));
+//! assert!(gic.irq_level(second)?);
 //!
-//! // It acknowledges the interrupt, finds no other, and ends it: the service of 5 has ended.
+//! // It acknowledges the interrupt, and the line is down: there is no other.
 //! assert_eq!(gic.read_v2_cpu_interface(second, offset::GICC_IAR, Dword)?.value, 5);
+//! assert!(!gic.irq_level(second)?);
 //! assert_eq!(gic.read_v2_cpu_interface(second, offset::GICC_IAR, Dword)?.value, 1023);
+//! assert_eq!(gic.interrupt(second, IntId(5))?.owner, Some(second));
+//!
+//! // It ends it: the service of 5 has ended.
 //! let ended = gic.write_v2_cpu_interface(second, offset::GICC_EOIR, Dword, 5)?;
 //! assert_eq!(ended.retired, Some(IntId(5)));
+//! assert_eq!(gic.interrupt(second, IntId(5))?.owner, None);
 //!
 //! // What a guest may get wrong is refused by its reason, and changes nothing.
 //! let wide = gic.read_v2_distributor(first, offset::GICD_ITARGETSR, Qword);
@@ -40,16 +48,34 @@
 //! # }
 //! ```
 //!
-//! To link it, `libvgic.a` has to lie where `build.rs` looks: in `target/staticlib` of the repository, or in the folder that
-//! `VGIC_LIB_DIR` names. The one that `rt staticlib` writes is for x86-64.
+//! To link it, `libvgic.a` has to lie where `build.rs` looks: in the folder that `VGIC_LIB_DIR` names, else in `target/archive/TARGET` of
+//! the repository, where `tools/archive --target TARGET target/archive/TARGET` writes it.
+#![no_std]
 #![deny(missing_docs)]
 #![deny(unsafe_op_in_unsafe_fn)]
+#![cfg_attr(
+    not(test),
+    deny(
+        clippy::arithmetic_side_effects,
+        clippy::expect_used,
+        clippy::indexing_slicing,
+        clippy::panic,
+        clippy::todo,
+        clippy::unimplemented,
+        clippy::unreachable,
+        clippy::unwrap_used
+    )
+)]
 
 mod answer;
 pub mod offset;
 pub mod raw;
+mod record;
+mod size;
 
 pub use answer::{Refusal, Reply, WakeSet};
+pub use record::{InterruptRecord, TriggerMode};
+pub use size::{LAYOUT, MAX_STATE_WORDS, state_words};
 
 /// A vCPU's number, whether it exists or not.
 #[derive(Clone, Copy, Debug, PartialEq, Eq, PartialOrd, Ord, Hash)]
@@ -89,11 +115,27 @@ impl AccessWidth {
     }
 }
 
-/// How many words a state takes: `count` is 1 to 8 vCPUs, and `limit`, 32 to 1020, the first number that is no interrupt.
-pub fn state_words(count: u64, limit: u64) -> Option<usize> {
-    match raw::vgic_state_words(count, limit) {
-        0 => None,
-        words => Some(words as usize),
+/// 1, 2, 4 and 8 bytes are widths; any other is refused as the library refuses it.
+impl TryFrom<u64> for AccessWidth {
+    type Error = Refusal;
+
+    fn try_from(bytes: u64) -> Result<Self, Refusal> {
+        match bytes {
+            1 => Ok(Self::Byte),
+            2 => Ok(Self::Word),
+            4 => Ok(Self::Dword),
+            8 => Ok(Self::Qword),
+            _ => Err(Refusal::Width),
+        }
+    }
+}
+
+/// As for a `u64`: for the length of what is read or written.
+impl TryFrom<usize> for AccessWidth {
+    type Error = Refusal;
+
+    fn try_from(bytes: usize) -> Result<Self, Refusal> {
+        Self::try_from(bytes as u64)
     }
 }
 
@@ -197,6 +239,23 @@ impl<'a> Gic<'a> {
         let (words, length) = self.lent();
         // SAFETY: as in `setup`.
         answer::unpacked(unsafe { raw::vgic_pulse(words, length, vcpu.0, number.0) })
+    }
+
+    /// Whether a read of IAR by this vCPU would now give an interrupt: whether its IRQ line is up.
+    pub fn irq_level(&self, vcpu: GicVcpuId) -> Result<bool, Refusal> {
+        let (words, length) = (self.words.as_ptr(), self.words.len());
+        // SAFETY: as in `read_v2_distributor`.
+        let answer = unsafe { raw::vgic_irq_level(words, length, vcpu.0) };
+        answer::unpacked(answer).map(|reply| reply.value != 0)
+    }
+
+    /// One interrupt as it stands: a private one of this vCPU, or an SPI, for which the vCPU does not matter. From the limit up there is
+    /// none, and every field is as in the default record.
+    pub fn interrupt(&self, vcpu: GicVcpuId, number: IntId) -> Result<InterruptRecord, Refusal> {
+        let (words, length) = (self.words.as_ptr(), self.words.len());
+        // SAFETY: as in `read_v2_distributor`.
+        let answer = unsafe { raw::vgic_interrupt(words, length, vcpu.0, number.0) };
+        answer::unpacked(answer).map(|reply| InterruptRecord::from_word(reply.value))
     }
 
     fn lent(&mut self) -> (*mut u32, usize) {

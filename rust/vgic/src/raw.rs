@@ -60,4 +60,10 @@ unsafe extern "C" {
 
     /// Pulses a device's line.
     pub fn vgic_pulse(words: *mut u32, length: usize, vcpu: u64, number: u64) -> u64;
+
+    /// Whether a read of IAR would now give a number: value 1 or 0.
+    pub fn vgic_irq_level(words: *const u32, length: usize, vcpu: u64) -> u64;
+
+    /// One interrupt's record, as the word that the state has of it.
+    pub fn vgic_interrupt(words: *const u32, length: usize, vcpu: u64, number: u64) -> u64;
 }
