@@ -1,6 +1,6 @@
 /*
- * The scope document's example from C: each call as a line of the runner and its answer (refusal, value, wake set, retired number), and
- * a device's line after it. Ends with status 1 if an answer is not the expected one.
+ * The scope document's example from C: each call as a line of the runner and its answer (refusal, value, wake set, retired number), a
+ * device's line after it, and what may be asked of both. Ends with status 1 if an answer is not the expected one.
  */
 #include "vgic.h"
 
@@ -8,7 +8,8 @@
 #include <stdio.h>
 #include <string.h>
 
-enum { COUNT = 2, LIMIT = 40, WORDS = 3 + 307 * COUNT + (LIMIT - 32) };
+enum { COUNT = 2, LIMIT = 40, WORDS = VGIC_STATE_WORDS(COUNT, LIMIT) };
+_Static_assert(WORDS != 0, "the count or the limit is out of range");
 
 /* A word more than the state takes, which nobody may touch. */
 static uint32_t words[WORDS + 1];
@@ -46,30 +47,68 @@ static vgic_answer interface_read(uint64_t vcpu, uint64_t offset)
 static void example(void)
 {
     expect("n 2 40", vgic_setup(words, WORDS, COUNT, LIMIT), "0 0 0 1023");
-    expect("D 0 0 4 1", distributor(0, 0, 1), "0 0 0 1023");
-    expect("C 1 0 4 1", interface(1, 0, 1), "0 0 0 1023");
-    expect("C 1 4 4 255", interface(1, 4, 255), "0 0 0 1023");
-    expect("D 0 3840 4 131077", distributor(0, 3840, 131077), "0 0 2 1023");
-    expect("c 1 12 4", interface_read(1, 12), "0 5 0 1023");
-    expect("c 1 12 4", interface_read(1, 12), "0 1023 0 1023");
-    expect("C 1 16 4 5", interface(1, 16, 5), "0 0 0 5");
-    expect("d 0 2048 8", vgic_read_v2_distributor(words, WORDS, 0, 2048, 8), "2 0 0 1023");
-    expect("d 9 2048 4", vgic_read_v2_distributor(words, WORDS, 9, 2048, 4), "0 0 0 1023");
-    expect("c 9 24 4", interface_read(9, 24), "3 0 0 1023");
+    expect("D 0 0 4 1", distributor(0, VGIC_GICD_CTLR, 1), "0 0 0 1023");
+    expect("C 1 0 4 1", interface(1, VGIC_GICC_CTLR, 1), "0 0 0 1023");
+    expect("C 1 4 4 255", interface(1, VGIC_GICC_PMR, 255), "0 0 0 1023");
+    expect("D 0 3840 4 131077", distributor(0, VGIC_GICD_SGIR, 131077), "0 0 2 1023");
+    expect("c 1 12 4", interface_read(1, VGIC_GICC_IAR), "0 5 0 1023");
+    expect("c 1 12 4", interface_read(1, VGIC_GICC_IAR), "0 1023 0 1023");
+    expect("C 1 16 4 5", interface(1, VGIC_GICC_EOIR, 5), "0 0 0 5");
+    expect("d 0 2048 8", vgic_read_v2_distributor(words, WORDS, 0, VGIC_GICD_ITARGETSR, 8), "2 0 0 1023");
+    expect("d 9 2048 4", vgic_read_v2_distributor(words, WORDS, 9, VGIC_GICD_ITARGETSR, 4), "0 0 0 1023");
+    expect("c 9 24 4", interface_read(9, VGIC_GICC_HPPIR), "3 0 0 1023");
 }
 
 /* SPI 33 goes to vCPU 1: its line rises and wakes it, it is taken and ended, and as the line is held it comes again. */
 static void device(void)
 {
-    expect("D 0 2081 1 2", vgic_write_v2_distributor(words, WORDS, 0, 2081, 1, 2), "0 0 0 1023");
-    expect("D 0 260 4 2", distributor(0, 260, 2), "0 0 0 1023");
+    expect("D 0 2081 1 2", vgic_write_v2_distributor(words, WORDS, 0, VGIC_GICD_ITARGETSR + 33, 1, 2), "0 0 0 1023");
+    expect("D 0 260 4 2", distributor(0, VGIC_GICD_ISENABLER + 4, 2), "0 0 0 1023");
     expect("l 0 33 1", vgic_set_level(words, WORDS, 0, 33, true), "0 0 2 1023");
-    expect("c 1 12 4", interface_read(1, 12), "0 33 0 1023");
-    expect("C 1 16 4 33", interface(1, 16, 33), "0 0 2 33");
+    expect("c 1 12 4", interface_read(1, VGIC_GICC_IAR), "0 33 0 1023");
+    expect("C 1 16 4 33", interface(1, VGIC_GICC_EOIR, 33), "0 0 2 33");
     expect("l 0 33 0", vgic_set_level(words, WORDS, 0, 33, false), "0 0 0 1023");
     expect("p 0 33", vgic_pulse(words, WORDS, 0, 33), "0 0 2 1023");
     expect("p 0 40", vgic_pulse(words, WORDS, 0, 40), "8 0 0 1023");
     expect("l 2 16 1", vgic_set_level(words, WORDS, 2, 16, true), "3 0 0 1023");
+}
+
+/* The record of SPI 33 has these flags and this owner, priority 16, and goes to vCPU 1. */
+static void expect_record(const char *line, uint32_t flags, int owner)
+{
+    vgic_answer answer = vgic_interrupt(words, WORDS, 9, 33);
+    uint32_t word = vgic_answer_value(answer);
+
+    printf("%s: %d %" PRIx32 "\n", line, (int)vgic_answer_refusal(answer), word);
+    if (vgic_answer_refusal(answer) != VGIC_ACCEPTED || (word & 0xff) != flags || vgic_interrupt_priority(word) != 16 ||
+        vgic_interrupt_targets(word) != 2 || vgic_interrupt_owner(word) != owner) {
+        printf("boot: expected flags %" PRIx32 ", priority 16, targets 2, owner %d\n", flags, owner);
+        failed = 1;
+    }
+}
+
+/* vCPU 1's line and the record of SPI 33, pulsed above: while it waits, while it is served and comes again, and at the end. */
+static void asked(void)
+{
+    uint32_t flags = VGIC_INTERRUPT_ENABLED | VGIC_INTERRUPT_TARGETED;
+    uint32_t served = flags | VGIC_INTERRUPT_ACTIVE | VGIC_INTERRUPT_INFLIGHT;
+
+    expect("D 0 1057 1 16", vgic_write_v2_distributor(words, WORDS, 0, VGIC_GICD_IPRIORITYR + 33, 1, 16), "0 0 0 1023");
+    expect("D 0 3080 4 8", distributor(0, VGIC_GICD_ICFGR + 8, 8), "0 0 0 1023");
+    flags |= VGIC_INTERRUPT_EDGE, served |= VGIC_INTERRUPT_EDGE;
+    expect("irq level of 1", vgic_irq_level(words, WORDS, 1), "0 1 0 1023");
+    expect("irq level of 0", vgic_irq_level(words, WORDS, 0), "0 0 0 1023");
+    expect_record("33 waits", flags | VGIC_INTERRUPT_PENDING, -1);
+    expect("c 1 12 4", interface_read(1, VGIC_GICC_IAR), "0 33 0 1023");
+    expect("irq level of 1", vgic_irq_level(words, WORDS, 1), "0 0 0 1023");
+    expect_record("33 is served", served, 1);
+    expect("l 0 33 1", vgic_set_level(words, WORDS, 0, 33, true), "0 0 0 1023");
+    expect_record("33 comes again", served | VGIC_INTERRUPT_PENDING | VGIC_INTERRUPT_REDELIVERY | VGIC_INTERRUPT_LINE, 1);
+    expect("C 1 16 4 33", interface(1, VGIC_GICC_EOIR, 33), "0 0 2 33");
+    expect_record("33 waits again", flags | VGIC_INTERRUPT_PENDING | VGIC_INTERRUPT_LINE, -1);
+    expect("irq level of 2", vgic_irq_level(words, WORDS, 2), "3 0 0 1023");
+    expect("interrupt 5 of 2", vgic_interrupt(words, WORDS, 2, 5), "3 0 0 1023");
+    expect("interrupt 40", vgic_interrupt(words, WORDS, 2, 40), "0 0 0 1023");
 }
 
 /* What only a caller in another language can give: no width, words that are too few or none, words that are no state. */
@@ -82,17 +121,16 @@ static void refused(void)
     expect("a limit of 31", vgic_setup(words, WORDS, COUNT, 31), "4 0 0 1023");
     expect("a header alone", vgic_pulse(none, 2, 0, 33), "6 0 0 1023");
     expect("no words", vgic_pulse(none, 0, 0, 33), "6 0 0 1023");
+    expect("irq level of a header", vgic_irq_level(none, 2, 9), "6 0 0 1023");
+    expect("interrupt of a header", vgic_interrupt(none, 2, 9, 5), "6 0 0 1023");
 }
 
 int main(void)
 {
     words[WORDS] = 0xa5c30ff1;
-    if (vgic_state_words(COUNT, LIMIT) != WORDS || vgic_state_words(9, LIMIT) != 0) {
-        printf("boot: another number of words than %d\n", (int)WORDS);
-        failed = 1;
-    }
     example();
     device();
+    asked();
     refused();
     if (words[WORDS] != 0xa5c30ff1) {
         printf("boot: a word past the state has changed\n");
