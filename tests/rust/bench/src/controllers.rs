@@ -22,13 +22,7 @@ pub struct Oracle {
 }
 
 fn width(bytes: u64) -> AccessWidth {
-    match bytes {
-        1 => AccessWidth::Byte,
-        2 => AccessWidth::Word,
-        4 => AccessWidth::Dword,
-        8 => AccessWidth::Qword,
-        _ => panic!("no width"),
-    }
+    AccessWidth::try_from(bytes).expect("a width")
 }
 
 fn given(answer: Result<Reply, vgic::Refusal>) -> Given {

@@ -92,7 +92,7 @@ fn take_and_end<C: Controller>(gic: &mut C, _: Shape, _: u64, sum: &mut Sum) {
 
 /// vCPU 0 sends an SGI to vCPU 1, which takes and ends it.
 fn ring<C: Controller>(gic: &mut C, _: Shape, turn: u64, sum: &mut Sum) {
-    sum.note(gic.write_distributor(0, GICD_SGIR, 4, 1 << 17 | turn % 16));
+    sum.note(gic.write_distributor(0, GICD_SGIR, 4, (1 << 17) | (turn % 16)));
     let taken = gic.read_interface(1, GICC_IAR);
     sum.note(taken);
     sum.note(gic.write_interface(1, GICC_EOIR, taken.value.into()));

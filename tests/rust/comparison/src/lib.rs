@@ -1,11 +1,13 @@
 //! A library's calls beside the oracle's: after every call the same answer, and the same state word by word.
 //!
-//! `pair` makes a call of both and compares. `histories` and `lent` say which calls are made: histories from setup on, and calls of words
-//! that no history makes. `report` tells a difference with the calls that lead to it, and with the fewest that do.
+//! `pair` makes a call of both and compares, and `question` says what is asked of both after it. `histories` and `lent` say which calls are
+//! made: histories from setup on, and calls of words that no history makes. `report` tells a difference with the calls that lead to it, and
+//! with the fewest that do.
 pub mod histories;
 pub mod lent;
 pub mod memory;
 pub mod pair;
+pub mod question;
 pub mod report;
 pub mod request;
 mod slots;
@@ -15,6 +17,7 @@ pub mod tally;
 
 use histories::Scenes;
 use pair::Pair;
+use question::Question;
 use report::Case;
 use request::Request;
 use tally::Tally;
@@ -23,6 +26,7 @@ use tally::Tally;
 pub trait Library {
     fn state_words(&self, count: u64, limit: u64) -> u64;
     fn call(&self, words: &mut [u32], request: &Request) -> u64;
+    fn ask(&self, words: &[u32], question: &Question) -> u64;
 }
 
 /// Where the two part, in words.

@@ -2,6 +2,7 @@
 use crate::{
     Difference, Library,
     memory::Memory,
+    question::{self, Question},
     request::{Request, packed, shown},
     tally::Tally,
 };
@@ -20,6 +21,9 @@ pub struct Pair<'a, L> {
     /// The words as they were lent, and every call of them since.
     pub start: Vec<u32>,
     pub requests: Vec<Request>,
+    /// What was answered otherwise, if it was a question; in a replay it is what is asked after every call.
+    pub wrong: Option<Question>,
+    replay: bool,
     pub tally: Tally,
 }
 
@@ -34,7 +38,18 @@ impl<'a, L: Library> Pair<'a, L> {
             state: vec![],
             start: vec![],
             requests: vec![],
+            wrong: None,
+            replay: false,
             tally: Tally::default(),
+        }
+    }
+
+    /// To make calls again: after each this is asked, if anything, and no more.
+    pub fn replay(library: &'a L, wrong: Option<Question>) -> Self {
+        Self {
+            wrong,
+            replay: true,
+            ..Self::new(library)
         }
     }
 
@@ -70,7 +85,38 @@ impl<'a, L: Library> Pair<'a, L> {
             self.ask_size(count, limit)?;
         }
         self.tally.note(request, &answer);
+        self.ask_after(request, &answer)?;
         Ok(answer)
+    }
+
+    /// Asks both; a question that writes is found out at the next call, and where much is asked at once.
+    fn ask_after(&mut self, request: &Request, answer: &Answer) -> Result<(), Difference> {
+        let questions = if self.replay {
+            self.wrong.into_iter().collect()
+        } else {
+            question::after(request, answer, self.tally.calls, self.memory.lent())
+        };
+        for question in &questions {
+            self.ask(question)?;
+        }
+        if self.replay || questions.len() > 2 {
+            self.memory.stayed()?;
+        }
+        Ok(())
+    }
+
+    fn ask(&mut self, question: &Question) -> Result<(), Difference> {
+        let expected = question.expected(&self.machine);
+        let given = self.library.ask(self.memory.lent(), question);
+        self.tally.note_question(question, &expected);
+        if given == packed(&expected) {
+            return Ok(());
+        }
+        self.wrong = Some(*question);
+        let given = shown(given);
+        Err(Difference(format!(
+            "{question}: oracle {expected}, library {given}"
+        )))
     }
 
     /// The oracle's answer. It has words of its own, and its widths are right: those refusals are ours to give.

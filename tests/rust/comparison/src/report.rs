@@ -1,13 +1,14 @@
 //! A difference told with the calls that lead to it, and with the fewest of them that do.
-use crate::{Difference, Library, pair::Pair, request::Request};
+use crate::{Difference, Library, pair::Pair, question::Question, request::Request};
 use oracle::words::{size, within_limits};
 use std::{fmt::Write, ops::Range};
 
-/// The words as they were lent, the calls of them, and what differed in the last.
+/// The words as they were lent, the calls of them, and what differed in the last, or in what was asked after it.
 #[derive(Clone, Debug)]
 pub struct Case {
     pub start: Vec<u32>,
     pub requests: Vec<Request>,
+    pub wrong: Option<Question>,
     pub difference: Difference,
 }
 
@@ -16,6 +17,7 @@ impl Case {
         Self {
             start: pair.start.clone(),
             requests: pair.requests.clone(),
+            wrong: pair.wrong,
             difference,
         }
     }
@@ -58,7 +60,7 @@ impl Case {
 
     /// The calls up to the first difference, if there is one.
     fn replayed<L: Library>(&self, library: &L) -> Option<Self> {
-        let mut pair = Pair::new(library);
+        let mut pair = Pair::replay(library, self.wrong);
         pair.lend(self.start.clone());
         let mut calls = self.requests.iter();
         let found = calls.find_map(|request| pair.call(request).err());

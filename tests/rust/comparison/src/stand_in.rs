@@ -1,13 +1,14 @@
 //! That a comparison passes what is equal and finds what is not: the oracle itself in a library's place, as it is and spoiled.
 use crate::{
     Library,
+    question::Question,
     request::{Request, packed},
     run,
     tally::Tally,
 };
 use oracle::{
     RegisterRegion::{CpuInterface, Distributor},
-    machine::{Answer, Machine},
+    machine::{Answer, Input, Machine},
     register::{GICC_EOIR, GICC_IAR, GICD_ITARGETSR},
     words::{HEADER, STACK, VCPU, size, within_limits},
 };
@@ -15,7 +16,13 @@ use oracle::{
 /// What a spoiled library does beside its call: it sees the words before, and changes answer and words.
 type Spoil = fn(&Request, &[u32], &mut u64, &mut [u32]);
 
-struct StandIn(Spoil);
+/// What it does to the answer of a question.
+type Lie = fn(&Question, &[u32], &mut u64);
+
+struct StandIn {
+    spoil: Spoil,
+    lie: Lie,
+}
 
 const CALLS: u64 = 50_000;
 
@@ -31,12 +38,23 @@ impl Library for StandIn {
     fn call(&self, words: &mut [u32], request: &Request) -> u64 {
         let before = words.to_vec();
         let mut given = packed(&self.answer(words, request));
-        self.0(request, &before, &mut given, words);
+        (self.spoil)(request, &before, &mut given, words);
+        given
+    }
+
+    fn ask(&self, words: &[u32], question: &Question) -> u64 {
+        let mut given = packed(&question.expected(&Machine::lent(words)));
+        (self.lie)(question, words, &mut given);
         given
     }
 }
 
 impl StandIn {
+    const SOUND: Self = Self {
+        spoil: |_, _, _, _| {},
+        lie: |_, _, _| {},
+    };
+
     fn answer(&self, words: &mut [u32], request: &Request) -> Answer {
         let Some(call) = request.call() else {
             return Answer::refused(2);
@@ -72,13 +90,16 @@ fn put(words: &mut [u32], after: &[u32]) {
 
 #[test]
 fn what_is_equal_passes() {
-    let tallies = run(&StandIn(|_, _, _, _| {}), 1, CALLS);
+    let tallies = run(&StandIn::SOUND, 1, CALLS);
     let tallies = tallies.unwrap_or_else(|case| panic!("{}", case.text()));
     for (name, tally) in &tallies[1..] {
         assert!(tally.calls >= CALLS / 10, "{name}: {tally}");
         assert!(tally.acknowledges > 50, "{name}: {tally}");
         assert!(tally.retirements > 20, "{name}: {tally}");
         assert!(tally.wakes > 50, "{name}: {tally}");
+        assert!(tally.up > 500, "{name}: {tally}");
+        assert!(tally.records > 500, "{name}: {tally}");
+        assert!(tally.refused_questions > 500, "{name}: {tally}");
     }
     let mut all = Tally::default();
     tallies.into_iter().for_each(|(_, tally)| all += tally);
@@ -86,11 +107,20 @@ fn what_is_equal_passes() {
 }
 
 /// Found, and told by at most so many calls.
-fn found(at_most: usize, spoil: Spoil) {
-    let library = StandIn(spoil);
+fn found_in(library: StandIn, at_most: usize) {
     let case = run(&library, 1, CALLS).expect_err("a spoiled library");
     let case = case.shrunk(&library);
     assert!(case.requests.len() <= at_most, "{}", case.text());
+}
+
+fn found(at_most: usize, spoil: Spoil) {
+    let sound = StandIn::SOUND;
+    found_in(StandIn { spoil, ..sound }, at_most);
+}
+
+fn found_out(at_most: usize, lie: Lie) {
+    let sound = StandIn::SOUND;
+    found_in(StandIn { lie, ..sound }, at_most);
 }
 
 fn is_read(request: &Request) -> bool {
@@ -109,6 +139,93 @@ fn a_wrong_answer_is_found() {
         }
     });
     found(3, |_, _, given, _| *given |= u64::from(*given >> 56 == 6));
+}
+
+#[test]
+fn a_wrong_line_is_found() {
+    // Always down; up while the Distributor is off; up while the stack is full; another vCPU's alone; refused by 3 for 6, and by none.
+    found_out(5, |question, _, given| {
+        if matches!(question, Question::IrqLevel { .. }) {
+            *given &= !1;
+        }
+    });
+    found_out(3, |question, words, given| {
+        if let (Question::IrqLevel { vcpu: 0 }, [1..=8, 32..=1020, 0, ..]) = (question, words) {
+            *given |= u64::from(*given >> 56 == 0);
+        }
+    });
+    found_out(1, |question, words, given| {
+        if let (Question::IrqLevel { vcpu: 0 }, Some(255)) = (question, words.get(HEADER + 3)) {
+            *given |= u64::from(*given >> 56 == 0);
+        }
+    });
+    found_out(7, |question, _, given| {
+        if matches!(question, Question::IrqLevel { vcpu: 3 }) {
+            *given &= !1;
+        }
+    });
+    found_out(1, |_, _, given| {
+        if *given >> 56 == 6 {
+            *given ^= 5 << 56;
+        }
+    });
+    found_out(2, |question, words, given| {
+        if matches!(question, Question::IrqLevel { .. })
+            && words.get(2) == Some(&0)
+            && *given >> 56 == 3
+        {
+            *given ^= 3 << 56;
+        }
+    });
+}
+
+#[test]
+fn a_wrong_record_is_found() {
+    // A flag left out; another vCPU's; a mask that is not set; an SPI refused for its vCPU; a record at the limit.
+    found_out(8, |question, _, given| {
+        if matches!(question, Question::Interrupt(_)) {
+            *given &= !0x10;
+        }
+    });
+    found_out(2, |question, words, given| {
+        if let Question::Interrupt(Input {
+            vcpu: 1,
+            number: number @ 0..32,
+        }) = question
+            && *given >> 56 == 0
+        {
+            let first = words[HEADER + 20 + *number as usize];
+            *given = *given & !0xff7f | u64::from(first & 0xff7f);
+        }
+    });
+    found_out(1, |question, words, given| {
+        if let Question::Interrupt(Input { number: 32, .. }) = question
+            && *given >> 56 == 0
+            && words[1] > 32
+        {
+            *given |= u64::from(words[HEADER + VCPU * words[0] as usize] & 0x00ff_0000);
+        }
+    });
+    found_out(2, |question, words, given| {
+        if let Question::Interrupt(Input {
+            vcpu: 8..,
+            number: 32..1020,
+        }) = question
+            && words.len() > 2
+            && *given >> 56 == 0
+        {
+            *given = 3 << 56 | 1023 << 32;
+        }
+    });
+    found_out(2, |question, words, given| {
+        if let Question::Interrupt(Input { number, .. }) = question
+            && words
+                .get(1)
+                .is_some_and(|limit| *number == u64::from(*limit))
+        {
+            *given |= u64::from(*given >> 56 == 0);
+        }
+    });
 }
 
 #[test]

@@ -1,5 +1,5 @@
 //! How much was compared.
-use crate::request::Request;
+use crate::{question::Question, request::Request};
 use oracle::machine::{Answer, SPURIOUS};
 use std::{fmt, ops::AddAssign};
 
@@ -11,6 +11,11 @@ pub struct Tally {
     pub wakes: u64,
     /// Answers by their refusal, 0 for none.
     pub refusals: [u64; 9],
+    pub questions: u64,
+    /// IRQ lines that are up, records that are not 0, questions that are refused.
+    pub up: u64,
+    pub records: u64,
+    pub refused_questions: u64,
 }
 
 impl Tally {
@@ -21,6 +26,16 @@ impl Tally {
         self.retirements += u64::from(answer.retired != SPURIOUS);
         self.wakes += u64::from(answer.wake != 0);
         self.refusals[usize::from(answer.refusal)] += 1;
+    }
+
+    pub fn note_question(&mut self, question: &Question, answer: &Answer) {
+        let told = u64::from(answer.value != 0);
+        self.questions += 1;
+        self.refused_questions += u64::from(answer.refusal != 0);
+        match question {
+            Question::IrqLevel { .. } => self.up += told,
+            Question::Interrupt(_) => self.records += told,
+        }
     }
 }
 
@@ -33,6 +48,10 @@ impl AddAssign for Tally {
         for (number, count) in self.refusals.iter_mut().zip(other.refusals) {
             *number += count;
         }
+        self.questions += other.questions;
+        self.up += other.up;
+        self.records += other.records;
+        self.refused_questions += other.refused_questions;
     }
 }
 
@@ -44,6 +63,10 @@ impl fmt::Display for Tally {
             retirements,
             wakes,
             refusals,
+            questions,
+            up,
+            records,
+            refused_questions,
         } = self;
         write!(
             f,
@@ -52,6 +75,9 @@ impl fmt::Display for Tally {
         for (number, count) in refusals.iter().enumerate().skip(1) {
             write!(f, " {number}: {count}")?;
         }
-        f.write_str(")")
+        write!(
+            f,
+            "), {questions} questions ({up} IRQ lines up, {records} records, {refused_questions} refused)"
+        )
     }
 }

@@ -1,6 +1,7 @@
 //! `libvgic.a` in the place of the library that is compared with the oracle.
 use comparison::{
     Library,
+    question::Question,
     request::{Place, Request},
 };
 use oracle::RegisterRegion::{CpuInterface, Distributor};
@@ -26,6 +27,17 @@ impl Library for Vgic {
             },
             Request::Pulse(input) => unsafe {
                 raw::vgic_pulse(at, length, input.vcpu, input.number)
+            },
+        }
+    }
+
+    fn ask(&self, words: &[u32], question: &Question) -> u64 {
+        let (at, length) = (words.as_ptr(), words.len());
+        // SAFETY: the words are lent to us for the call.
+        match *question {
+            Question::IrqLevel { vcpu } => unsafe { raw::vgic_irq_level(at, length, vcpu) },
+            Question::Interrupt(input) => unsafe {
+                raw::vgic_interrupt(at, length, input.vcpu, input.number)
             },
         }
     }

@@ -5,18 +5,10 @@ use oracle::{
     machine::{Access, Call},
 };
 use std::{fs, path::Path};
-use vgic::{AccessWidth, Gic, GicVcpuId, IntId, Refusal, Reply};
-
-/// Room for the largest state.
-const WORDS: usize = 3447;
+use vgic::{AccessWidth, Gic, GicVcpuId, IntId, MAX_STATE_WORDS, Refusal, Reply};
 
 fn width(at: &Access) -> AccessWidth {
-    match at.width {
-        oracle::AccessWidth::Byte => AccessWidth::Byte,
-        oracle::AccessWidth::Word => AccessWidth::Word,
-        oracle::AccessWidth::Dword => AccessWidth::Dword,
-        oracle::AccessWidth::Qword => AccessWidth::Qword,
-    }
+    AccessWidth::try_from(at.width.size()).unwrap()
 }
 
 fn call(gic: &mut Gic, call: &Call) -> Result<Reply, Refusal> {
@@ -50,6 +42,7 @@ fn shown(answer: Result<Reply, Refusal>) -> String {
             value,
             wake,
             retired,
+            ..
         }) => {
             let IntId(retired) = retired.unwrap_or(IntId::SPURIOUS);
             format!("0 {value} {} {retired}", wake.bits())
@@ -67,7 +60,7 @@ fn every_row_of_the_lists() {
         if path.extension().is_none_or(|it| it != "list") {
             continue;
         }
-        let mut words = [0; WORDS];
+        let mut words = [0; MAX_STATE_WORDS];
         let mut gic = Gic::lend(&mut words);
         for row in fs::read(&path).unwrap().split(|&byte| byte == b'\n') {
             let Some(at) = row.windows(2).rposition(|two| two == b": ") else {

@@ -1,5 +1,5 @@
 //! That the driver fails where the linked library differs.
-use comparison::{Library, request::Request, run};
+use comparison::{Library, question::Question, request::Request, run};
 use driver::Vgic;
 
 /// The library, with one bit of one word changed in every read of RPR.
@@ -20,6 +20,43 @@ impl Library for Spoiled {
         }
         answer
     }
+
+    fn ask(&self, words: &[u32], question: &Question) -> u64 {
+        Vgic.ask(words, question)
+    }
+}
+
+/// The library, with vCPU 1's IRQ line always down.
+struct Silent;
+
+impl Library for Silent {
+    fn state_words(&self, count: u64, limit: u64) -> u64 {
+        Vgic.state_words(count, limit)
+    }
+
+    fn call(&self, words: &mut [u32], request: &Request) -> u64 {
+        Vgic.call(words, request)
+    }
+
+    fn ask(&self, words: &[u32], question: &Question) -> u64 {
+        let answer = Vgic.ask(words, question);
+        match question {
+            Question::IrqLevel { vcpu: 1 } => answer & !1,
+            _ => answer,
+        }
+    }
+}
+
+#[test]
+fn a_wrong_line_is_found() {
+    let case = run(&Silent, 1, 50_000).expect_err("a difference");
+    let case = case.shrunk(&Silent);
+    assert!(case.requests.len() <= 6, "{}", case.text());
+    assert!(
+        case.text().contains("IRQ line of vCPU 1"),
+        "{}",
+        case.text()
+    );
 }
 
 #[test]

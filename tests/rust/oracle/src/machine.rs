@@ -22,7 +22,7 @@ pub struct Access {
     pub width: AccessWidth,
 }
 
-/// Which interrupt a device works; its vCPU matters to a PPI.
+/// Which interrupt a device works, or is asked for; its vCPU matters to a private one.
 #[derive(Clone, Copy, Debug, PartialEq, Eq)]
 pub struct Input {
     pub vcpu: u64,
@@ -118,6 +118,32 @@ impl Machine {
         Answer::OK
     }
 
+    /// Whether a read of IAR by this vCPU would now give a number.
+    pub fn irq_level(&self, vcpu: u64) -> Answer {
+        match &self.controller {
+            None => Answer::refused(6),
+            Some(gic) if vcpu >= gic.vcpu_count() as u64 => Answer::refused(3),
+            Some(gic) => Answer {
+                value: ready(gic, vcpu as usize).into(),
+                ..Answer::OK
+            },
+        }
+    }
+
+    /// An interrupt's record as its word; 0 from the limit up.
+    pub fn interrupt(&self, input: Input) -> Answer {
+        match &self.controller {
+            None => Answer::refused(6),
+            Some(gic) => match words::record(&gic.state(), input) {
+                Err(_) => Answer::refused(3),
+                Ok(word) => Answer {
+                    value: word.into(),
+                    ..Answer::OK
+                },
+            },
+        }
+    }
+
     pub fn controller(&self) -> Option<&GicV3Controller> {
         self.controller.as_ref()
     }
@@ -196,9 +222,14 @@ fn settle(
 fn wake_set(before: &GicV3Controller, after: &GicV3Controller) -> u8 {
     let spurious = u64::from(SPURIOUS);
     (0..after.vcpu_count())
-        .filter(|&vcpu| try_acknowledge(after, vcpu).is_some_and(|number| number != spurious))
+        .filter(|&vcpu| ready(after, vcpu))
         .filter(|&vcpu| try_acknowledge(before, vcpu) == Some(spurious))
         .fold(0, |set, vcpu| set | 1 << vcpu)
+}
+
+/// Whether an IAR read by this vCPU would give a number.
+fn ready(gic: &GicV3Controller, vcpu: usize) -> bool {
+    try_acknowledge(gic, vcpu).is_some_and(|number| number != u64::from(SPURIOUS))
 }
 
 /// What an IAR read by this vCPU would give, tried on a copy; no number where it would be refused (by 7).

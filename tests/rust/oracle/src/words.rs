@@ -1,8 +1,11 @@
 //! The state as words: docs/STATE.md, written and read. By this the oracle's state is held against a library's, and words that no
 //! history makes are put before the oracle.
 use crate::{
-    GicV3Controller, GicVcpuId, Priority, TriggerMode, access, controller::state::State,
-    redistributor::RedistributorState, registers::Interrupt,
+    GicV3Controller, GicVcpuId, Priority, TriggerMode, VgicError, VgicResult, access,
+    controller::state::State,
+    machine::Input,
+    redistributor::RedistributorState,
+    registers::{Bank, Interrupt},
 };
 use types::Parts;
 
@@ -50,6 +53,21 @@ pub(crate) fn write(state: &State, words: &mut Vec<u32>) {
         );
         words.resize(start + STACK, 0);
     }
+}
+
+/// The word of one record. A private one is looked for at its vCPU, which has to be there; from the limit up it is 0.
+pub(crate) fn record(state: &State, Input { vcpu, number }: Input) -> VgicResult<u32> {
+    let number = u32::try_from(number).unwrap_or(u32::MAX);
+    let found = if number < 32 {
+        let vcpu = usize::try_from(vcpu).unwrap_or(usize::MAX);
+        let own = state.redistributors.get(vcpu);
+        own.ok_or(VgicError::NoVcpu(GicVcpuId::new(vcpu)))?
+            .1
+            .find(number)
+    } else {
+        state.distributor.find(number)
+    };
+    Ok(found.map_or(0, record_word))
 }
 
 fn record_word(it: &Interrupt) -> u32 {

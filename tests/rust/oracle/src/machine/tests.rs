@@ -57,6 +57,38 @@ fn an_acknowledge_that_7_refuses_gave_no_1023() {
 }
 
 #[test]
+fn a_line_is_up_where_iar_would_give_a_number() {
+    let shown = |answer: Answer| answer.to_string();
+    let mut machine = with_depth(254);
+    assert_eq!(shown(machine.irq_level(0)), "0 1 0 1023");
+    for vcpu in [1, 8, 1 << 32, u64::MAX] {
+        assert_eq!(shown(machine.irq_level(vcpu)), "3 0 0 1023");
+    }
+    assert_eq!(answer(&mut machine, "D 0 0 4 0"), "0 0 0 1023");
+    assert_eq!(shown(machine.irq_level(0)), "0 0 0 1023");
+    assert_eq!(shown(machine.irq_level(1)), "3 0 0 1023"); // where IAR looks nobody up
+    assert_eq!(shown(with_depth(255).irq_level(0)), "0 0 0 1023");
+    assert_eq!(shown(Machine::default().irq_level(0)), "6 0 0 1023");
+}
+
+#[test]
+fn a_record_is_shown_as_its_word() {
+    let mut machine = with_depth(0);
+    answer(&mut machine, "D 0 2081 1 1");
+    let shown = |vcpu, number| machine.interrupt(Input { vcpu, number }).to_string();
+    assert_eq!(shown(0, 1), "0 67 0 1023");
+    assert_eq!(shown(9, 33), "0 65664 0 1023");
+    for number in [40, 1019, (1 << 32) + 33, u64::MAX] {
+        assert_eq!(shown(9, number), "0 0 0 1023");
+    }
+    for vcpu in [1, (1 << 32), u64::MAX] {
+        assert_eq!(shown(vcpu, 31), "3 0 0 1023");
+    }
+    let none = Machine::default().interrupt(Input { vcpu: 0, number: 1 });
+    assert_eq!(none, Answer::refused(6));
+}
+
+#[test]
 fn an_sgi_pending_without_a_source_answers_source_0() {
     let pending = |state: &mut State| own(state).find_mut(3).unwrap().record.set_pending(true);
     let mut machine = changed(pending);
