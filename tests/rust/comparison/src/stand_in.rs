@@ -143,7 +143,7 @@ fn a_wrong_answer_is_found() {
 
 #[test]
 fn a_wrong_line_is_found() {
-    // Always down; up while the Distributor is off; up while the stack is full; another vCPU's alone; refused by 3 for 6, and by none.
+    // Down; up while the Distributor is off; up while the stack is full; one vCPU's down; refused by 3 for 6; a stranger's not refused.
     found_out(5, |question, _, given| {
         if matches!(question, Question::IrqLevel { .. }) {
             *given &= !1;
