@@ -73,7 +73,7 @@ static void device(void)
     expect("l 2 16 1", vgic_set_level(words, WORDS, 2, 16, true), "3 0 0 1023");
 }
 
-/* The record of SPI 33 has these flags and this owner, priority 16, and goes to vCPU 1. */
+/* The record of SPI 33 has these flags and this owner, has priority 16, and goes to vCPU 1. */
 static void expect_record(const char *line, uint32_t flags, int owner)
 {
     vgic_answer answer = vgic_interrupt(words, WORDS, 9, 33);
@@ -90,12 +90,11 @@ static void expect_record(const char *line, uint32_t flags, int owner)
 /* vCPU 1's line and the record of SPI 33, pulsed above: while it waits, while it is served and comes again, and at the end. */
 static void asked(void)
 {
-    uint32_t flags = VGIC_INTERRUPT_ENABLED | VGIC_INTERRUPT_TARGETED;
+    uint32_t flags = VGIC_INTERRUPT_ENABLED | VGIC_INTERRUPT_EDGE | VGIC_INTERRUPT_TARGETED;
     uint32_t served = flags | VGIC_INTERRUPT_ACTIVE | VGIC_INTERRUPT_INFLIGHT;
 
     expect("D 0 1057 1 16", vgic_write_v2_distributor(words, WORDS, 0, VGIC_GICD_IPRIORITYR + 33, 1, 16), "0 0 0 1023");
     expect("D 0 3080 4 8", distributor(0, VGIC_GICD_ICFGR + 8, 8), "0 0 0 1023");
-    flags |= VGIC_INTERRUPT_EDGE, served |= VGIC_INTERRUPT_EDGE;
     expect("irq level of 1", vgic_irq_level(words, WORDS, 1), "0 1 0 1023");
     expect("irq level of 0", vgic_irq_level(words, WORDS, 0), "0 0 0 1023");
     expect_record("33 waits", flags | VGIC_INTERRUPT_PENDING, -1);

@@ -40,7 +40,7 @@ __asm__(".text\n.global painted_call\npainted_call:\n"
 #error "no painted_call for this machine"
 #endif
 
-static uint32_t words[3447];
+static uint32_t words[VGIC_STATE_WORDS_MAX];
 static const uint64_t length = sizeof words / sizeof *words;
 
 static uint64_t deepest(uint64_t so_far, const void *function, const uint64_t arguments[6])
@@ -109,7 +109,7 @@ static uint64_t of_input(const void *input)
 
 int main(void)
 {
-    uint64_t most[6] = {0}, of_words = 0, of_setup = 0;
+    uint64_t most[8] = {0}, of_words = 0, of_setup = 0;
     for (uint64_t count = 0; count < 10; count++)
         for (uint64_t limit = 31; limit <= 1021; limit++) {
             uint64_t limits[6] = {count, limit}, setup[6] = {(uint64_t)words, limit % 7 ? length : limit, count, limit};
@@ -122,18 +122,19 @@ int main(void)
         uint64_t write = 0, read = 0;
         service(&read, &write);
         uint64_t level = of_input((const void *)vgic_set_level), pulse = of_input((const void *)vgic_pulse);
+        uint64_t line = of_input((const void *)vgic_irq_level), record = of_input((const void *)vgic_interrupt);
         uint64_t used = of_frame((const void *)vgic_read_v2_cpu_interface, (const void *)vgic_write_v2_cpu_interface, 0x2000, &write);
         read = used > read ? used : read;
         boot(count, count == 1 ? 40 : 1020);
         uint64_t to_distributor = 0;
         used = of_frame((const void *)vgic_read_v2_distributor, (const void *)vgic_write_v2_distributor, 0x1000, &to_distributor);
-        uint64_t all[6] = {used, to_distributor, read, write, level, pulse};
-        for (int i = 0; i < 6; i++)
+        uint64_t all[8] = {used, to_distributor, read, write, level, pulse, line, record};
+        for (int i = 0; i < 8; i++)
             most[i] = all[i] > most[i] ? all[i] : most[i];
     }
-    static const char *const names[6] = {"vgic_read_v2_distributor", "vgic_write_v2_distributor", "vgic_read_v2_cpu_interface",
-                                         "vgic_write_v2_cpu_interface", "vgic_set_level", "vgic_pulse"};
-    for (int i = 0; i < 6; i++)
+    static const char *const names[8] = {"vgic_read_v2_distributor", "vgic_write_v2_distributor", "vgic_read_v2_cpu_interface",
+                                         "vgic_write_v2_cpu_interface", "vgic_set_level", "vgic_pulse", "vgic_irq_level", "vgic_interrupt"};
+    for (int i = 0; i < 8; i++)
         printf("%s %d\n", names[i], (int)most[i]);
     return 0;
 }
