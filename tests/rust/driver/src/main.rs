@@ -1,5 +1,5 @@
-//! `driver [SEED [CALLS]]` compares libvgic.a with the oracle: after every call the answer and every word of the state, and what the library
-//! tells of IRQ lines and interrupts. It ends with status 1 and the calls that lead there where they differ.
+//! `driver [SEED [CALLS]]` compares libvgic.a with the oracle: after every call the answer and every word of the state, and what the
+//! library tells of IRQ lines and interrupts. It ends with status 1 and the calls that lead there where they differ.
 use comparison::{report::Case, run, tally::Tally};
 use driver::Vgic;
 use std::{env, process::ExitCode};
