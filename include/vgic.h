@@ -1,5 +1,6 @@
 /*
- * A GICv2 interrupt controller for small Arm guests: the calls of libvgic.a, which `rt staticlib vgic` writes (x86-64).
+ * A GICv2 interrupt controller for small Arm guests: the calls of libvgic.a, which tools/archive writes for x86-64, for Arm, and for an Arm
+ * exit path. docs/INTEGRATION.md says which exit is which call, and what to do with what it answers.
  *
  * The caller lends the controller's whole state as words. The library keeps nothing else, allocates nothing and calls nothing. Every call
  * is defined for any numbers and for any lent words: `words` has to point to `length` words that may be read, and where it is not const

@@ -7,6 +7,8 @@ use std::{
 fn main() {
     println!("cargo::rerun-if-env-changed=VGIC_LIB_DIR");
     let target = env::var("TARGET").unwrap_or_default();
+    // For a bare machine one archive serves both of Rust's targets.
+    let target = target.trim_end_matches("-softfloat");
     let made = format!("target/archive/{target}");
     let repository = Path::new(env!("CARGO_MANIFEST_DIR")).join("../..");
     let folder = env::var_os("VGIC_LIB_DIR").map_or_else(|| repository.join(&made), PathBuf::from);

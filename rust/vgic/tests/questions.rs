@@ -89,17 +89,35 @@ fn with_the_distributor_off_every_line_is_down_and_no_stranger_has_one() {
     }
 }
 
-#[test]
-fn a_full_stack_keeps_the_line_down() {
+/// Words that no history makes: vCPU 1 serves 255 interrupts, the newest two SGIs 6 and 5, and SPI 33, which is above both, is up.
+fn full() -> [u32; WORDS] {
     let mut words = ready();
     Gic::lend(&mut words).set_level(FIRST, SPI, true).unwrap();
     let depth = 3 + 52 + 3;
     words[depth] = 255;
-    words[WORDS - 1] = 5 | 128 << 10; // SGI 5, at a priority that SPI 33 is above
+    words[WORDS - 2] = 6 | 200 << 10;
+    words[WORDS - 1] = 5 | 128 << 10;
+    words
+}
+
+#[test]
+fn a_full_stack_keeps_the_line_down() {
+    let mut words = full();
     let mut gic = Gic::lend(&mut words);
     let refused = gic.read_v2_cpu_interface(SECOND, offset::GICC_IAR, Dword);
     assert_eq!(refused, Err(Refusal::FullStack));
     assert_eq!(lines(&gic), [false, false]);
+}
+
+/// There, and only there, a line rises and nobody is woken: IAR did not give 1023 before.
+#[test]
+fn a_rise_from_a_full_stack_is_in_no_wake_set() {
+    let mut words = full();
+    let mut gic = Gic::lend(&mut words);
+    let ended = gic.write_v2_cpu_interface(SECOND, offset::GICC_EOIR, Dword, 5);
+    assert!(ended.unwrap().wake.is_empty());
+    assert_eq!(lines(&gic), [false, true]);
+    assert_eq!(take(&mut gic, SECOND), 33);
 }
 
 #[test]
