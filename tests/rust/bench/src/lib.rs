@@ -1,9 +1,11 @@
 //! The library, the plain Rust and the oracle behind one trait, and the workloads that they are measured on.
 mod controllers;
 pub mod measure;
+pub mod programs;
 pub mod workloads;
 
 pub use controllers::{Library, Oracle, Plain};
+use std::fmt;
 
 /// What a call gave. Only accepted calls are measured.
 #[derive(Clone, Copy, Debug, PartialEq, Eq)]
@@ -34,5 +36,11 @@ impl Sum {
         let all =
             u64::from(given.value) | u64::from(given.retired) << 32 | u64::from(given.wake) << 48;
         self.0 = self.0.rotate_left(7) ^ all;
+    }
+}
+
+impl fmt::Display for Sum {
+    fn fmt(&self, f: &mut fmt::Formatter<'_>) -> fmt::Result {
+        write!(f, "{:016x}", self.0)
     }
 }

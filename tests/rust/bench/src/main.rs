@@ -1,14 +1,14 @@
-//! `bench [ROUNDS]` times the calls of the library, the plain Rust and the oracle: nanoseconds of processor time for each call, the median
-//! of the rounds.
-//! All three make the same calls, and where their answers differ it fails.
+//! `bench ROUNDS TURNS GENERAL` times the calls of two builds of the library, of the plain Rust and of the oracle: nanoseconds of processor
+//! time for each call, the median of the rounds. TURNS is the program `turns` with the one build, GENERAL with the one for general registers.
+//! All make the same calls, and where their answers differ it fails.
 use bench::{
-    Controller, Library, Oracle, Plain, Sum,
-    measure::{Figure, time, turns_for},
+    Controller, Library, Oracle, Plain,
+    measure::{Figure, turns_for},
+    programs::{Measured, Outcome},
     workloads::{self, Shape},
 };
-use std::{env, process::ExitCode};
+use std::{env, num::NonZero, process::ExitCode};
 
-const ROUNDS: usize = 15;
 const SHAPES: [Shape; 2] = [
     Shape {
         count: 2,
@@ -19,104 +19,88 @@ const SHAPES: [Shape; 2] = [
         limit: 64,
     },
 ];
-/// How long a round measures one of them.
+/// About how long a round of the plain Rust is. The others take as many turns.
 const NANOSECONDS: f64 = 30e6;
 
 fn main() -> ExitCode {
-    let rounds = match env::args().skip(1).collect::<Vec<_>>().as_slice() {
-        [] => Some(ROUNDS),
-        [rounds] => rounds.parse().ok().filter(|rounds| *rounds > 0),
-        _ => None,
+    let arguments: Vec<String> = env::args().skip(1).collect();
+    match run(&arguments) {
+        Ok(()) => ExitCode::SUCCESS,
+        Err(why) => {
+            eprintln!("bench: {why}");
+            ExitCode::FAILURE
+        }
+    }
+}
+
+fn run(arguments: &[String]) -> Outcome<()> {
+    let [rounds, turns, general] = arguments else {
+        return Err("usage: bench ROUNDS TURNS GENERAL".into());
     };
-    let Some(rounds) = rounds else {
-        eprintln!("usage: bench [ROUNDS]");
-        return ExitCode::from(2);
+    let rounds: NonZero<usize> = rounds.parse()?;
+    let measured = |name, program, controller| Measured {
+        name,
+        program,
+        controller,
     };
+    let all = [
+        measured("ours", turns, Library::NAME),
+        measured("ours (general)", general, Library::NAME),
+        measured("simple", turns, Plain::NAME),
+        measured("oracle", turns, Oracle::NAME),
+    ];
     for shape in SHAPES {
         let Shape { count, limit } = shape;
         println!(
             "{count} vCPUs, interrupts below {limit}; ns of processor time for each call, median of {rounds} rounds (widest distance from it)"
         );
+        let names = all.iter().map(|it| format!(" {:>16}", it.name));
         println!(
-            "{:36} {:>16} {:>16} {:>16} {:>11} {:>13}",
-            "", "ours", "simple", "oracle", "ours/simple", "oracle/simple"
+            "{:36}{} {:>11} {:>14} {:>13}",
+            "",
+            names.collect::<String>(),
+            "ours/simple",
+            "general/simple",
+            "oracle/simple"
         );
-        for index in 0..workloads::all::<Library>().len() {
-            if let Err(why) = row(index, shape, rounds) {
-                println!("{why}");
-                return ExitCode::FAILURE;
+        for (index, workload) in workloads::all::<Plain>().iter().enumerate() {
+            let turns = turns_for(workload, shape, NANOSECONDS);
+            let figures = figures(&all, rounds.get(), |it| it.time(index, shape, turns))
+                .map_err(|why| format!("{}: {why}", workload.name))?;
+            show(workload.name, figures);
+        }
+    }
+    Ok(())
+}
+
+/// What comes of the rounds of one workload, in which all have to give the same answers.
+fn figures(
+    all: &[Measured; 4],
+    rounds: usize,
+    time: impl Fn(&Measured) -> Outcome<(f64, String)>,
+) -> Outcome<[Figure; 4]> {
+    let mut times = [const { vec![] }; 4];
+    let mut answers = None;
+    for _ in 0..rounds {
+        for (it, times) in all.iter().zip(&mut times) {
+            let (each, gave) = time(it)?;
+            times.push(each);
+            if *answers.get_or_insert_with(|| gave.clone()) != gave {
+                return Err(format!("{} answers differently", it.name).into());
             }
         }
     }
-    ExitCode::SUCCESS
+    Ok(times.map(Figure::of))
 }
 
-/// The workload of this number with one of the three.
-struct Runs<C> {
-    workload: workloads::Workload<C>,
-    shape: Shape,
-    turns: u64,
-    times: Vec<f64>,
-    sum: Option<Sum>,
-}
-
-impl<C: Controller> Runs<C> {
-    fn new(index: usize, shape: Shape) -> Self {
-        let workload = workloads::all().into_iter().nth(index);
-        let workload = workload.expect("a workload");
-        Self {
-            turns: turns_for(&workload, shape, NANOSECONDS),
-            workload,
-            shape,
-            times: vec![],
-            sum: None,
-        }
-    }
-
-    /// One round; the answers have to be those of the other rounds.
-    fn round(&mut self) {
-        let (each, sum) = time(&self.workload, self.shape, self.turns);
-        self.times.push(each);
-        assert_eq!(*self.sum.get_or_insert(sum), sum);
-    }
-
-    fn answers(&self, turns: u64) -> Sum {
-        time(&self.workload, self.shape, turns).1
-    }
-
-    fn figure(self) -> Figure {
-        Figure::of(self.times)
-    }
-}
-
-fn row(index: usize, shape: Shape, rounds: usize) -> Result<(), String> {
-    let mut ours = Runs::<Library>::new(index, shape);
-    let mut simple = Runs::<Plain>::new(index, shape);
-    let mut oracle = Runs::<Oracle>::new(index, shape);
-    let name = ours.workload.name;
-    for _ in 0..rounds {
-        ours.round();
-        simple.round();
-        oracle.round();
-    }
-    let (long, short) = (ours.turns.max(simple.turns), oracle.turns);
-    if ours.answers(long) != simple.answers(long) {
-        return Err(format!(
-            "{name}: ours and the simple one answer differently"
-        ));
-    }
-    if Some(ours.answers(short)) != oracle.sum {
-        return Err(format!("{name}: ours and the oracle answer differently"));
-    }
-    let (ours, simple, oracle) = (ours.figure(), simple.figure(), oracle.figure());
-    let shown = |figure: Figure| format!("{:.1} ({:.0}%)", figure.median, figure.spread());
+fn show(name: &str, figures: [Figure; 4]) {
+    let each = figures.map(|it| format!("{:.1} ({:.0}%)", it.median, it.spread()));
+    let each = each.map(|it| format!(" {it:>16}")).concat();
+    let [ours, general, simple, oracle] = figures.map(|it| it.median);
     println!(
-        "{name:36} {:>16} {:>16} {:>16} {:>11.2} {:>13.1}",
-        shown(ours),
-        shown(simple),
-        shown(oracle),
-        ours.median / simple.median,
-        oracle.median / simple.median
+        "{name:36}{each} {:>11.2} {:>14.2} {:>13.1}",
+        ours / simple,
+        general / simple,
+        oracle / simple
     );
-    Ok(())
 }

@@ -2,6 +2,7 @@
 use bench::{
     Controller, Library, Oracle, Plain, Sum,
     measure::{Figure, time},
+    programs::Measured,
     workloads::{self, Shape},
 };
 
@@ -21,6 +22,33 @@ fn the_same_answers() {
         assert_eq!(ours, answers::<Oracle>(shape, 100), "{shape:?}");
         assert!(ours.iter().all(|sum| *sum != Sum::default()), "{shape:?}");
     }
+}
+
+#[test]
+fn the_same_answers_by_a_program() {
+    const TURNS: &str = env!("CARGO_BIN_EXE_turns");
+    let shape = Shape {
+        count: 2,
+        limit: 64,
+    };
+    let time = |program, controller, index| {
+        let measured = Measured {
+            name: controller,
+            program,
+            controller,
+        };
+        measured.time(index, shape, 10)
+    };
+    for (index, expected) in answers::<Library>(shape, 10).iter().enumerate() {
+        for controller in [Library::NAME, Plain::NAME, Oracle::NAME] {
+            let (each, gave) = time(TURNS, controller, index).expect("turns taken");
+            assert!(each > 0.0, "{controller}");
+            assert_eq!(gave, expected.to_string(), "{controller}");
+        }
+    }
+    assert!(time(TURNS, "another", 0).is_err());
+    assert!(time(TURNS, Library::NAME, 6).is_err());
+    assert!(time("true", Library::NAME, 0).is_err());
 }
 
 #[test]

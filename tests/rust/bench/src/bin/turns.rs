@@ -1,33 +1,34 @@
-//! `turns ours|simple|oracle WORKLOAD COUNT LIMIT TURNS` takes turns of one workload (1 to 6), for a profiler.
+//! `turns ours|simple|oracle WORKLOAD COUNT LIMIT TURNS` takes turns of one workload (1 to 6), for `bench` and for a profiler.
 use bench::{
-    Controller, Library, Oracle, Plain,
+    Controller, Library, Oracle, Plain, Sum,
     measure::time,
+    programs,
     workloads::{self, Shape},
 };
 use std::{env, process::ExitCode};
 
-fn take<C: Controller>(numbers: &[u64]) -> Option<f64> {
+fn take<C: Controller>(numbers: &[u64]) -> Option<(f64, Sum)> {
     let &[workload, count, limit, turns] = numbers else {
         return None;
     };
     let index = workload.checked_sub(1)? as usize;
     let workload = workloads::all::<C>().into_iter().nth(index)?;
-    Some(time(&workload, Shape { count, limit }, turns).0)
+    Some(time(&workload, Shape { count, limit }, turns))
 }
 
 fn main() -> ExitCode {
     let arguments: Vec<String> = env::args().skip(1).collect();
     let numbers: Vec<u64> = arguments.iter().flat_map(|it| it.parse()).collect();
-    let each = match arguments.first().map(String::as_str) {
+    let outcome = match arguments.first().map(String::as_str) {
         Some("ours") => take::<Library>(&numbers),
         Some("simple") => take::<Plain>(&numbers),
         Some("oracle") => take::<Oracle>(&numbers),
         _ => None,
     };
-    let Some(each) = each else {
+    let Some((each, answers)) = outcome else {
         eprintln!("usage: turns ours|simple|oracle WORKLOAD COUNT LIMIT TURNS");
         return ExitCode::from(2);
     };
-    println!("{each:.1} ns for each call");
+    println!("{each:.1}{}{answers}", programs::BETWEEN);
     ExitCode::SUCCESS
 }
