@@ -34,6 +34,15 @@ fn given(answer: Result<Reply, vgic::Refusal>) -> Given {
     }
 }
 
+/// What only looks gives.
+fn told(value: u32) -> Given {
+    Given {
+        value,
+        wake: 0,
+        retired: 1023,
+    }
+}
+
 impl Library {
     fn gic(&mut self) -> Gic<'_> {
         Gic::lend(&mut self.words)
@@ -85,6 +94,11 @@ impl Controller for Library {
                 .set_level(GicVcpuId(vcpu), IntId(number), asserted),
         )
     }
+
+    fn irq_level(&mut self, vcpu: u64) -> Given {
+        let level = self.gic().irq_level(GicVcpuId(vcpu));
+        told(level.expect("an accepted call").into())
+    }
 }
 
 fn plain(answer: simple::Answer) -> Given {
@@ -130,6 +144,10 @@ impl Controller for Plain {
 
     fn set_level(&mut self, vcpu: u64, number: u64, asserted: bool) -> Given {
         plain(self.gic.set_level(vcpu, number, asserted))
+    }
+
+    fn irq_level(&mut self, vcpu: u64) -> Given {
+        plain(self.gic.irq_level(vcpu))
     }
 }
 
@@ -185,5 +203,9 @@ impl Controller for Oracle {
 
     fn set_level(&mut self, vcpu: u64, number: u64, asserted: bool) -> Given {
         self.call(Call::SetLevel(Input { vcpu, number }, asserted))
+    }
+
+    fn irq_level(&mut self, vcpu: u64) -> Given {
+        told(self.machine.irq_level(vcpu).value as u32)
     }
 }

@@ -25,6 +25,7 @@ pub trait Controller {
     fn read_interface(&mut self, vcpu: u64, offset: u64) -> Given;
     fn write_interface(&mut self, vcpu: u64, offset: u64, value: u64) -> Given;
     fn set_level(&mut self, vcpu: u64, number: u64, asserted: bool) -> Given;
+    fn irq_level(&mut self, vcpu: u64) -> Given;
 }
 
 /// All answers so far in one number: it keeps every call from being left out, and tells whether two gave the same.

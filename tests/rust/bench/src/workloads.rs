@@ -28,7 +28,7 @@ pub struct Workload<C> {
     pub turn: fn(&mut C, Shape, u64, &mut Sum),
 }
 
-pub fn all<C: Controller>() -> [Workload<C>; 6] {
+pub fn all<C: Controller>() -> [Workload<C>; 7] {
     let workload = |name, calls, start, turn| Workload {
         name,
         calls,
@@ -47,6 +47,7 @@ pub fn all<C: Controller>() -> [Workload<C>; 6] {
         workload("writes that wake nobody", 2, boot, write),
         workload("line up, IAR, line down, EOIR", 4, boot, packet),
         workload("reads: ISENABLER, IPRIORITYR, TYPER", 3, boot, read),
+        workload("levels of both lines, 2 SPIs ready", 2, few_ready, levels),
     ]
 }
 
@@ -120,4 +121,10 @@ fn read<C: Controller>(gic: &mut C, shape: Shape, turn: u64, sum: &mut Sum) {
     sum.note(gic.read_distributor(0, GICD_ISENABLER + id / 32 * 4, 4));
     sum.note(gic.read_distributor(0, GICD_IPRIORITYR + id / 4 * 4, 4));
     sum.note(gic.read_distributor(0, GICD_TYPER, 4));
+}
+
+/// One line is up, the other down.
+fn levels<C: Controller>(gic: &mut C, _: Shape, _: u64, sum: &mut Sum) {
+    sum.note(gic.irq_level(0));
+    sum.note(gic.irq_level(1));
 }

@@ -47,7 +47,8 @@ fn the_same_answers_by_a_program() {
         }
     }
     assert!(time(TURNS, "another", 0).is_err());
-    assert!(time(TURNS, Library::NAME, 6).is_err());
+    let none = workloads::all::<Library>().len();
+    assert!(time(TURNS, Library::NAME, none).is_err());
     assert!(time("true", Library::NAME, 0).is_err());
 }
 

@@ -198,6 +198,12 @@ impl Gic {
             .fold(0, |set, vcpu| set | 1 << vcpu)
     }
 
+    /// Whether a read of IAR by this vCPU would now give a number.
+    pub fn irq_level(&self, vcpu: u64) -> Answer {
+        let vcpu = self.vcpu(vcpu)?;
+        Ok(value(matches!(self.offer(vcpu), Offer::Number(_)).into()))
+    }
+
     /// A device raises or lowers its line.
     pub fn set_level(&mut self, vcpu: u64, number: u64, asserted: bool) -> Answer {
         self.input(vcpu, number, |record| record.set_level(asserted))

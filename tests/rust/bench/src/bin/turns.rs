@@ -1,4 +1,4 @@
-//! `turns ours|simple|oracle WORKLOAD COUNT LIMIT TURNS` takes turns of one workload (1 to 6), for `bench` and for a profiler.
+//! `turns ours|simple|oracle WORKLOAD COUNT LIMIT TURNS` takes turns of one workload (1 to 7), for `bench` and for a profiler.
 use bench::{
     Controller, Library, Oracle, Plain, Sum,
     measure::time,
