@@ -1,10 +1,10 @@
 -- The level of a vCPU's interrupt line over calls: "Wake sets are only its rising edges".
-use mathlib.Core.Bool.{Bool, not, _&&_}
+use mathlib.Core.Bool.{Bool, _&&_}
 use mathlib.Core.List.{List}
 use Prim.Native.Nat.{ℕ, _/_, _%_, _^_}
 use lib.Dec.{eqb}
 use Rattle.answer.specs.Answer.{Outcome}
-use Rattle.history.specs.History.{Call, IrqLevel, called, iarRead}
+use Rattle.history.specs.History.{IrqLevel, called, iarRead}
 
 -- as the call gives it; 0 where it is refused
 abbrev pub toldLevel : ℕ → List ℕ → ℕ

@@ -1,6 +1,6 @@
 -- What a host may look at beside the registers. Both calls are beyond document 01: docs/DECISIONS.md, "What a host looks at".
 use mathlib.Core.Path.{_≡_}
-use mathlib.Core.Bool.{Bool, true, not, cond}
+use mathlib.Core.Bool.{Bool, true, cond}
 use mathlib.Core.List.{List}
 use Prim.Native.Nat.{ℕ}
 use lib.Dec.{ltb}

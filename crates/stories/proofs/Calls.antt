@@ -10,9 +10,6 @@ use Rattle.interrupt.specs.declared.types.DecodedIntId.the-variants.{Valid}
 use Rattle.interrupt.specs.Record as record-of
 use Rattle.interrupt.specs.Types.{decoded}
 use Rattle.register.specs.declared.frame.AccessWidth.the-variants.{Dword}
-use Rattle.register.specs.declared.distributor.DistributorAccess.the-variants as distributor
-use Rattle.register.specs.declared.«cpu_interface».CpuInterfaceAccess.the-variants as interface
-use Rattle.register.specs.declared.«cpu_interface».CpuInterfaceRegister.the-variants.{Iar, Eoir, Dir}
 use Rattle.register.specs.declared.ranges.Class.the-variants.{Sgir}
 use Rattle.register.specs.Distributor.{plain}
 use Rattle.register.proofs.Named.{iar-at, eoir-at, dir-at, sgir-at}
