@@ -51,7 +51,7 @@ typer = ReadDistributor 0 0x004 Dword
 
 pub no-refuser : (f : Behaviour) → KeepsPromises f → Refuser f → ⊥
 unfolding behaved typer zeros computing
-no-refuser f m k = k (history []) typer refl (ap (λ (o : Outcome). o .refusal) (from-setup f m [] typer refl))
+no-refuser f m k = k (history []) typer refl refl (ap (λ (o : Outcome). o .refusal) (from-setup f m [] typer refl))
 
 -- CTLR of either frame, which keeps a 1
 control : Access

@@ -21,7 +21,7 @@ abbrev refuses : Behaviour
 refuses c s = refused BrokenState s
 
 pub a-refuser : Refuser refuses
-a-refuser h c p e = omega (arith, e)
+a-refuser h c p q e = omega (arith, e)
 
 pub a-constant-reader : (frame : Frame) → ReadsNothing frame refuses
 a-constant-reader frame h a = inl refl

@@ -5,11 +5,12 @@ use mathlib.Core.Path.{_≡_}
 use mathlib.Core.Bool.{Bool, true, false, not, _&&_}
 use mathlib.Core.List.{List, [], _∷_}
 use mathlib.Core.Logic.{_⊎_}
+use mathlib.Core.Option.{none, some}
 use Prim.Native.Nat.{ℕ, _^_}
 use lib.Dec.{eqb, ltb}
 use Rattle.register.specs.declared.frame.AccessWidth.{AccessWidth}
 use Rattle.answer.specs.Answer.{Outcome}
-use Rattle.history.specs.History.{Call, Setup, ReadDistributor, WriteDistributor, ReadCpuInterface, WriteCpuInterface, numbers, isSetup, called, noSetup, iarRead}
+use Rattle.history.specs.History.{Call, Setup, ReadDistributor, WriteDistributor, ReadCpuInterface, WriteCpuInterface, numbers, Looks, ReadsRegister, WritesRegister, WritesPlace, Signals, Deed, Starts, Acts, deed, isSetup, called, noSetup, iarRead}
 
 -- some controller: what it does with a call and lent words
 abbrev pub Behaviour : Type 0
@@ -60,9 +61,19 @@ abbrev pub writeCall : Frame → Access → ℕ → Call
 writeCall Distributor a value = WriteDistributor (a .vcpu) (a .offset) (a .width) value
 writeCall CpuInterface a value = WriteCpuInterface (a .vcpu) (a .offset) (a .width) value
 
--- "refuses everything": it may accept setups
+-- a look by nobody, so by the host: document 01 has no such call
+abbrev pub hostLooks : Deed → Bool
+hostLooks (Starts count limit) = false
+hostLooks (Acts (Looks none)) = true
+hostLooks (Acts (Looks (some v))) = false
+hostLooks (Acts (ReadsRegister v a)) = false
+hostLooks (Acts (WritesRegister v a value)) = false
+hostLooks (Acts (WritesPlace v a width value)) = false
+hostLooks (Acts (Signals v n signal)) = false
+
+-- "refuses everything": it may accept setups, and a host's looks
 abbrev pub Refuser : Behaviour → Type 0
-Refuser f = (h : History) (c : Call) → isSetup c ≡ false → f c (wordsAfter f h) .refusal ≡ 0 → ⊥
+Refuser f = (h : History) (c : Call) → isSetup c ≡ false → hostLooks (deed c) ≡ false → f c (wordsAfter f h) .refusal ≡ 0 → ⊥
 
 -- "reads 1023 or 0 everywhere": one frame is enough
 abbrev pub ReadsNothing : Frame → Behaviour → Type 0
