@@ -69,7 +69,7 @@ module _ (S : Cursor) (ts : List Ty) (R : Result) where
     walk : (C : Calls 𝓤 H) (Λ : Loops 𝓤 H) → FmC 𝓤 H (W .laws) C → (g : Name) (Q : Val → SProp 𝓤) → ent 𝓤 Entry (sep 𝓤 P Keep) → ent 𝓤 P (C g (slice (S .image d) ∷ vint w64 (S .at d) ∷ vs) Q)
         → ((u : Val) → ent 𝓤 (Q u) (H .⇛ (sep 𝓤 (sem 𝓤 H A (R .row .own z (u ∷ []))) Rest))) → ((u : Val) → ent 𝓤 (sep 𝓤 (sem 𝓤 H A (R .row .own z (u ∷ []))) (sep 𝓤 Rest Keep)) (Post u))
         → ent 𝓤 Entry (WpFn 𝓤 H C Λ (apart g) (lowered S d ∷ vs) Post)
-    walk C Λ fm g Q splits met said exits =
+    walk C Λ fm g Q splits met said hands-back =
         qed W (raw Entry ∷ []) ∵ enter ! C Λ (apart g) (lowered S d ∷ vs) _ $
         alloc1 ! (λ l₀. alloc1 ! (λ l₁. alloc-all ! ts _ (λ bs. alloc1 ! (λ l₂. alloc1 ! (λ l₃. alloc0 ! $
         let E : List (Ty × ℕ) = (τ-slice erased, l₂) ∷ (tyInt w64, l₃) ∷ [] in
@@ -85,7 +85,7 @@ module _ (S : Cursor) (ts : List Ty) (R : Result) where
         land ! (from ! (stop !)) (init ! 10 refl (R .typed 𝓤 H A W z u is)) $
         returns ! (look ! 10 refl) $ forget ! 4 refl $ forget ! 6 refl $ forget ! 8 refl $ forget ! 10 refl $
         move ! (10 ∷ 11 ∷ []) $ free1 ! $ move ! (8 ∷ 9 ∷ []) $ free1 ! $ move ! (3 ∷ []) $ free-all ! ts bs vs ok E $
-        move ! (5 ∷ 6 ∷ []) $ free1 ! $ move ! (3 ∷ 4 ∷ []) $ free1 ! $ free0 ! $ by ! (exits u))))))))
+        move ! (5 ∷ 6 ∷ []) $ free1 ! $ move ! (3 ∷ 4 ∷ []) $ free1 ! $ free0 ! $ by ! (hands-back u))))))))
 
 module _ (S : Cursor) (ps : List Scalar) (R : Result) {M : Type 1} (𝓤 : URA M) (H : Heap 𝓤) (A : Atoms 𝓤) (W : Given 𝓤 H A) (Asks : List ℕ → ℕ → Xs ps → SProp 𝓤) (f : List ℕ → ℕ → Xs ps → R .row .Denot) where
   abbrev stayed : Stays (carried ps R S .signature .params) (carried ps R S .kept)
@@ -155,8 +155,8 @@ module _ (S : Cursor) (ps : List Scalar) (R : Result) {M : Type 1} (𝓤 : URA M
         split ! $ move ! (1 ∷ []) $ use1 W (raw (fact 𝓤 (r ≡ f (now (S .image d)) (S .at d) (told 1 κs ps a′)))) (exE 𝓤 _ (λ ws. snd∗ 𝓤 (sem 𝓤 H A (lasts (bare ps R) κs (S .image d, (S .at d, a′)) ws)) _)) $ heard ! _ (λ e. split ! $ move ! (1 ∷ 0 ∷ []) $ at-once ! $
         by ! (subst (λ (y : R .row .Denot). ent 𝓤 (sep 𝓤 (sem 𝓤 H A (R .row .own r (u ∷ []))) Token) (sep 𝓤 (sem 𝓤 H A (R .row .own y (u ∷ []))) Token)) (e ∙ ap (f (now (S .image d)) (S .at d)) (told-args 1 κs ps x)) (id⊢ 𝓤 _))))
 
-    exits : (u : Val) → ent 𝓤 (sep 𝓤 (sem 𝓤 H A (R .row .own z (u ∷ []))) (sep 𝓤 Token (sem 𝓤 H A Own))) (Post u)
-    exits u =
+    hands-back : (u : Val) → ent 𝓤 (sep 𝓤 (sem 𝓤 H A (R .row .own z (u ∷ []))) (sep 𝓤 Token (sem 𝓤 H A Own))) (Post u)
+    hands-back u =
         qed W (‵ (R .row .own z (u ∷ [])) ∷ (‵ (flft (κs .0) q) ⊛ ‵ ftrue) ∷ ‵ Own ∷ []) ∵
         suffices ! _ (ends-at 𝓤 H A (carried ps R S) stayed (Carried ps R 𝓤 Asks f S) W ((κs, (q, tt), tt, (d, a), (mach ∷ [], valued 1 κs ps a)), tt) u z (tt, none-bound 1 κs ps a) (tt, none-asked 1 κs ps a (none-bound 1 κs ps a))) $ says ! refl $
         move ! (1 ∷ []) $ frame ! $
@@ -178,4 +178,4 @@ module _ (S : Cursor) (ps : List Scalar) (R : Result) {M : Type 1} (𝓤 : URA M
           (walk S (mirs ps) R 𝓤 H A W d wt (z κs q d a) (machine ps y) (all-typed ps y scalars) (Entry κs q d a) (Callee .pre (to κs q d a)) (sem 𝓤 H A (Own κs q d a)) (Token κs q d a) (Post κs q d a) (𝓣 .C) (𝓣 .Λ) (fmOf 𝓤 H (W .laws) 𝓣) g (Callee .post (to κs q d a))
           (splits κs q d a (wt .1 .1 .0 .fits) scalars)
           (subst (λ (vs : List Val). ent 𝓤 (Callee .pre (to κs q d a)) (𝓣 .C g (slice (S .image d) ∷ vint w64 (S .at d) ∷ vs) (Callee .post (to κs q d a)))) (flat-told 1 κs ps (args 1 κs ps y) ∙ ap (machine ps) (told-args 1 κs ps y)) (known (to κs q d a)))
-          (said κs q d a) (exits κs q d a))
+          (said κs q d a) (hands-back κs q d a))
