@@ -8,7 +8,7 @@ use native.Mathlib.Omega.{arith}
 use lib.Dec.{eqb}
 use Rattle.register.specs.declared.frame.AccessWidth.{AccessWidth}
 use Rattle.register.specs.declared.frame.Refusal.{Refusal}
-use Rattle.register.specs.declared.frame.Refusal.the-variants.{Access, Width, Vcpu, Limits, ShortState, BrokenState, FullStack, Input}
+use Rattle.register.specs.declared.frame.Refusal.the-variants.{Access, Width, Vcpu, Limits, ShortState, BrokenState, FullStack, Input, Unlawful, NoRoom}
 use Rattle.register.specs.Frame.{refusalNumber}
 use Rattle.answer.specs.declared.Answer.{Answer}
 use Rattle.answer.specs.declared.Answer.the-variants.{Done, Refused}
@@ -32,7 +32,9 @@ numbered r q p = sym (back r) ∙ ap named p ∙ back q
         (cond (eqb n 4) Limits
         (cond (eqb n 5) ShortState
         (cond (eqb n 6) BrokenState
-        (cond (eqb n 7) FullStack Input))))))
+        (cond (eqb n 7) FullStack
+        (cond (eqb n 8) Input
+        (cond (eqb n 9) Unlawful NoRoom))))))))
 
     back : (r : Refusal) → named (refusalNumber r) ≡ r
     back Access = refl
@@ -43,6 +45,8 @@ numbered r q p = sym (back r) ∙ ap named p ∙ back q
     back BrokenState = refl
     back FullStack = refl
     back Input = refl
+    back Unlawful = refl
+    back NoRoom = refl
 
 some-number : (r : Refusal) → 0 ≡ refusalNumber r → ⊥
 some-number Access p = omega (arith, p)
@@ -53,6 +57,8 @@ some-number ShortState p = omega (arith, p)
 some-number BrokenState p = omega (arith, p)
 some-number FullStack p = omega (arith, p)
 some-number Input p = omega (arith, p)
+some-number Unlawful p = omega (arith, p)
+some-number NoRoom p = omega (arith, p)
 
 replied : (r q : Reply) → r .value ≡ q .value → r .wake ≡ q .wake → r .retired .0 ≡ q .retired .0 → r ≡ q
 replied r q a b c =

@@ -72,6 +72,8 @@ some-refusal refusal.ShortState e = omega (arith, e)
 some-refusal refusal.BrokenState e = omega (arith, e)
 some-refusal refusal.FullStack e = omega (arith, e)
 some-refusal refusal.Input e = omega (arith, e)
+some-refusal refusal.Unlawful e = omega (arith, e)
+some-refusal refusal.NoRoom e = omega (arith, e)
 
 -- an access, by 1, 2 or 3
 access : {c : Call} {more : List ℕ} → refusals c ≡ 6 ∷ 1 ∷ 2 ∷ 3 ∷ more → (r : Refusal) → refusalNumber r ≤ 3 → Refusable c (refusalNumber r)
@@ -86,6 +88,8 @@ access {c} {more} p r b = record { ordinary = few (omega (arith, b)); of-call = 
     by-number refusal.BrokenState b = absurd (omega (arith, b))
     by-number refusal.FullStack b = absurd (omega (arith, b))
     by-number refusal.Input b = absurd (omega (arith, b))
+    by-number refusal.Unlawful b = absurd (omega (arith, b))
+    by-number refusal.NoRoom b = absurd (omega (arith, b))
 
 -- what the CPU interface's map refuses it refuses by 1 or 2
 abbrev Passes : CpuInterfaceAccess → Type 0

@@ -34,7 +34,7 @@ implied-gives : (a b : Bool) → implied a b ≡ true → a ≡ true → b ≡ t
 implied-gives true b h e = h
 implied-gives false b h e = absurd (false≢true e)
 
-both-true : (a b : Bool) → a ≡ true → b ≡ true → (a && b) ≡ true
+pub both-true : (a b : Bool) → a ≡ true → b ≡ true → (a && b) ≡ true
 both-true true b p q = q
 both-true false b p q = absurd (false≢true p)
 
@@ -178,18 +178,21 @@ module _ (shape : Shape) (v : ℕ) (s : List ℕ) where
 
 -- a number: its record, and an SGI's sources
 module _ (shape : Shape) (s : List ℕ) where
-  number-passes : Lawful shape s → (v n : ℕ) → RecordThere shape v n → numberLawful shape v s n ≡ true
+  pub number-passes : Lawful shape s → (v n : ℕ) → RecordThere shape v n → numberLawful shape v s n ≡ true
   unfolding numberLawful
   number-passes h v n there =
       both-true (recordLawful shape v n (recordAt shape v n s)) _ (record-passes shape v n (recordAt shape v n s) (h .orderly .records v n there) (h .records v n there))
       (implied-holds (ltb n 16) _ (λ e. let sgi = ltb-true n 16 e in sources-pass (sourcesAt shape v n s) (recordAt shape v n s .pending) (h .orderly .sourced v n (there .banked (omega arith)) sgi)))
+
+  pub stack-passes : Lawful shape s → (v : ℕ) → v < shape .count → stackLawful shape v s ≡ true
+  stack-passes h v b = every-true (entryLawfulAt shape v s) (depthAt shape v s) (entry-passes shape v s h b)
 
   pub lawful-passes : Lawful shape s → isLawful shape s ≡ true
   unfolding isLawful
   lawful-passes h =
       both-true (everyBelow (vcpuLawful shape s) (shape .count)) _
       (every-true (vcpuLawful shape s) (shape .count) (λ v b. both-true (stackLawful shape v s) _
-      (every-true (entryLawfulAt shape v s) (depthAt shape v s) (entry-passes shape v s h b))
+      (stack-passes h v b)
       (every-true (λ k. numberLawful shape v s (0 + k)) 32 (λ k low. number-passes h v (0 + k) (record { numbered = omega (arith, h .in-range .state .limits .private-numbers); banked = λ x. b })))))
       (every-true (λ k. numberLawful shape 0 s (32 + k)) (shape .limit - 32) (λ k c. number-passes h 0 (32 + k) (record { numbered = omega arith; banked = λ x. absurd (omega arith) })))
 

@@ -58,7 +58,7 @@ fn sgi_lawful(intid: IntId, record: InterruptRecord) -> bool
     !intid.is_sgi() | (!trigger.is_level() & !record.line_asserted & !record.redelivery_pending)
 }
 
-fn record_lawful(shape: Shape, vcpu: GicVcpuId, intid: IntId, record: InterruptRecord) -> bool
+pub fn record_lawful(shape: Shape, vcpu: GicVcpuId, intid: IntId, record: InterruptRecord) -> bool
     requires { ⌜ Limits shape ⌝ }
     ensures { λ r. ⌜ r ≡ recordLawful shape (vcpu .0) (intid .0) «record» ⌝ }
 {
@@ -72,7 +72,7 @@ fn record_lawful(shape: Shape, vcpu: GicVcpuId, intid: IntId, record: InterruptR
 }
 
 // An SGI is pending exactly when a source is set.
-fn sources_lawful(sources: u8, pending: bool) -> bool
+pub fn sources_lawful(sources: u8, pending: bool) -> bool
     ensures { λ r. ⌜ r ≡ sourcesLawful sources pending ⌝ }
 {
     if pending { sources != 0 } else { sources == 0 }
@@ -106,7 +106,7 @@ fn numbers_lawful(words: &[u32], shape: Shape, vcpu: GicVcpuId, first: u32, many
     true
 }
 
-fn entry_lawful(shape: Shape, above: Priority, entry: Entry) -> bool
+pub fn entry_lawful(shape: Shape, above: Priority, entry: Entry) -> bool
     ensures { λ r. ⌜ r ≡ entryLawful shape (above .0) «entry» ⌝ }
 {
     (entry.priority.0 < above.0) & (entry.intid.0 < shape.limit)

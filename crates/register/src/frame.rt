@@ -34,6 +34,10 @@ pub enum Refusal {
     FullStack,
     // Device input: no number for a device.
     Input,
+    // Saving: the state is not lawful. Loading: the bytes are no image of a lawful state.
+    Unlawful,
+    // Saving: the buffer is too short.
+    NoRoom,
 }
 
 impl AccessWidth {
@@ -110,6 +114,8 @@ impl Refusal {
             Refusal::BrokenState => 6,
             Refusal::FullStack => 7,
             Refusal::Input => 8,
+            Refusal::Unlawful => 9,
+            Refusal::NoRoom => 10,
         }
     }
 }

@@ -12,9 +12,9 @@ use Rattle.state.specs.declared.lent.Limited.{Limited}
 use Rattle.state.specs.declared.lent.Limited.the-variants.{Within, Outside}
 use Rattle.state.specs.declared.lent.Lent.{Lent}
 use Rattle.state.specs.declared.lent.Lent.the-variants.{Sound, Broken}
-use Rattle.state.specs.Layout.{Interface, stackCapacity, size, Room}
+use Rattle.state.specs.Layout.{Count, Limit, Interface, stackCapacity, size, Room}
 use Rattle.state.specs.Loop.{everyBelow}
-use Rattle.state.specs.Words.{wordAt}
+use Rattle.state.specs.Words.{wordAt, put}
 
 -- "1 to 8 vCPUs; the SPI limit is 32 to 1020"
 abbrev pub inLimits : ℕ → ℕ → Bool
@@ -25,6 +25,10 @@ shaped count limit = record { count = count; limit = limit }
 
 unfoldable pub limited : ℕ → ℕ → Limited
 limited count limit = cond (inLimits count limit) (Within (shaped count limit)) Outside
+
+-- the words that say which state they hold
+abbrev pub withShape : Shape → List ℕ → List ℕ
+withShape shape s = put shape Limit (shape .limit) (put shape Count (shape .count) s)
 
 -- by the stored count and limit; a word that is not there counts as 0, which is in neither range
 abbrev pub storedShape : List ℕ → Limited

@@ -1,7 +1,7 @@
 // Whether lent words are a state: the test behind refusal 6, and the limits behind refusal 4.
 ghost use mathlib.Core.Path.{_≡_};
 ghost use Rattle.state.specs.Layout.{Room};
-ghost use Rattle.state.specs.Lent.{limited, storedShape, depthFits, validated};
+ghost use Rattle.state.specs.Lent.{limited, withShape, storedShape, depthFits, validated};
 ghost use Rattle.state.specs.Loop.{everyBelow};
 use crate::layout::COUNT;
 use crate::layout::InterfaceValue;
@@ -42,6 +42,14 @@ pub fn validate_limits(count: u64, limit: u64) -> Limited
         count: count as usize,
         limit: limit as u32,
     })
+}
+
+pub fn put_shape(words: &mut [u32], shape: Shape)
+    requires { ⌜ Room shape (now words) ⌝ }
+    ensures { λ r. ⌜ now (words .exit) ≡ withShape shape (now (words .entry)) ⌝ }
+{
+    words[COUNT] = shape.count as u32;
+    words[LIMIT] = shape.limit;
 }
 
 fn depths_fit(words: &[u32], shape: Shape) -> bool

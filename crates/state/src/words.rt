@@ -77,7 +77,7 @@ pub fn put_sgi_sources(words: &mut [u32], shape: Shape, vcpu: GicVcpuId, sgi: In
 
 impl InterfaceValue {
     // The bits of a word that this value has.
-    fn kept(self, word: u32) -> u32
+    pub fn kept(self, word: u32) -> u32
         ensures { λ r. ⌜ r ≡ kept self word ⌝ }
     {
         match self {

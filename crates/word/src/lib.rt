@@ -23,7 +23,7 @@ const OWNER: u32 = 0x100_0000;
 // How many vCPUs a byte tells apart beside nobody.
 const OWNERS: usize = 255;
 
-fn trigger_of(edge: bool) -> TriggerMode
+pub fn trigger_of(edge: bool) -> TriggerMode
     ensures { λ r. ⌜ r ≡ triggerOf edge ⌝ }
 {
     if edge {
@@ -43,7 +43,7 @@ fn mask_of(set: bool, byte: u8) -> CpuTargetMask
     }
 }
 
-fn owner_of(byte: usize) -> Owner
+pub fn owner_of(byte: usize) -> Owner
     ensures { λ r. ⌜ r ≡ ownerOf byte ⌝ }
 {
     if byte == 0 {
