@@ -99,7 +99,7 @@ module _ (shape : Shape) where
         )
         (implied-holds (ltb n 16) _ (λ e. let sgi = ltb-true n 16 e in simp (h .sgi-edge sgi, h .sgi-low sgi, h .sgi-unnoted sgi)))
 
-    record Passed : Type 0 where
+    pub record Passed : Type 0 where
       pub orderly : OrderlyRecord shape r
       pub lawful : LawfulRecord shape v n r
 
@@ -107,7 +107,7 @@ module _ (shape : Shape) where
     edge-only Edge e = refl
     edge-only Level e = absurd (false≢true e)
 
-    passes-record : (n < 32 → v < shape .count) → recordLawful shape v n r ≡ true → Passed
+    pub passes-record : (n < 32 → v < shape .count) → recordLawful shape v n r ≡ true → Passed
     unfolding recordLawful
     passes-record banked e =
         let a = implied (r .inflight) (r .active) in

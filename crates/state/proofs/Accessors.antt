@@ -25,7 +25,7 @@ use Rattle.state.proofs.Places.{kept-kept, place-inside, place-apart}
 pub control-bit : (x : ℕ) → keptDistributorControl x ≡ bitOf (enableBit x)
 control-bit x = same-or (x % 2) 1 (λ e. simp (eq-eqb (x % 2) 1 e) e) (λ d. let off : x % 2 ≡ 0 = omega (arith, d) in simp (ne-eqb (x % 2) 1 d) off)
 
-entry-back : (e : Entry) → e .intid .0 < 1024 → e .priority .0 < 256 → entryOf (entryWord e) ≡ e
+pub entry-back : (e : Entry) → e .intid .0 < 1024 → e .priority .0 < 256 → entryOf (entryWord e) ≡ e
 entry-back e a b =
     let n : entryWord e % 1024 ≡ e .intid .0 = omega arith in
     let d : entryWord e / 1024 ≡ e .priority .0 = omega arith in

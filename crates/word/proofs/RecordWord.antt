@@ -32,7 +32,7 @@ bit-back false = refl
 flag-back : (k w : ℕ) (b : Bool) → field k 1 w ≡ bitOf b → flag k w ≡ b
 flag-back k w b e = ap (λ (x : ℕ). eqb x 1) e ∙ bit-back b
 
-trigger-back : (t : TriggerMode) → triggerOf (not (isLevel t)) ≡ t
+pub trigger-back : (t : TriggerMode) → triggerOf (not (isLevel t)) ≡ t
 trigger-back Level = refl
 trigger-back Edge = refl
 
