@@ -165,6 +165,11 @@ impl Gic {
         }
     }
 
+    /// Whether an IAR read by this vCPU, which exists, would give a number.
+    pub fn irq_level(&self, v: u64) -> bool {
+        self.outlooks()[v as usize] == Outlook::Number
+    }
+
     fn outlooks(&self) -> [Outlook; 8] {
         let mut out = [Outlook::Spurious; 8];
         if !self.on {

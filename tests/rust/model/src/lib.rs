@@ -2,10 +2,15 @@
 //! the oracle must, and has the same state after each, so that a mistake in the oracle's stand-in shows as a difference.
 //!
 //! The record's transitions are interrupt.rs's own, as document 01 asks.
+//!
+//! Request One is written here a second time too: `lawful` and `image`, over the lent words of docs/STATE.md (`words`).
 pub mod gic;
+pub mod image;
+mod lawful;
 pub mod lines;
 pub mod place;
 pub mod record;
+pub mod words;
 
 // What interrupt.rs takes from its crate's root.
 pub use types::{GicAffinity, IntId, InterruptState, Priority, TriggerMode};

@@ -10,9 +10,10 @@ use super::{
 use crate::{
     GicV3Controller, GicVcpuId, IntId, Priority, TriggerMode, access,
     controller::state::State,
-    lines,
+    invariants, lines,
     machine::{Call, Machine},
     redistributor::RedistributorState,
+    words,
 };
 use model::{gic::Gic, lines::answer_line, record::Record};
 use types::Parts;
@@ -48,6 +49,16 @@ fn assert_same_interface(own: &RedistributorState, second: &Gic, vcpu: usize) {
     assert_eq!(own.sources, second.sources[16 * vcpu..][..16]);
 }
 
+/// The same words, which mean the same again, and the same verdict whether the state is lawful.
+fn assert_same_words(gic: &GicV3Controller, second: &Gic) {
+    let mut expected = vec![];
+    words::write(&gic.state(), &mut expected);
+    assert_eq!(model::words::write(second), expected);
+    let read = model::words::read(&expected).expect("a state");
+    assert_same_state(gic, &read);
+    assert_eq!(second.is_lawful(), invariants::broken(gic).is_none());
+}
+
 /// What the second writing answers.
 fn second_answer(second: &mut Option<Gic>, line: &[u8]) -> String {
     let mut answer = vec![];
@@ -59,12 +70,13 @@ fn second_answer(second: &mut Option<Gic>, line: &[u8]) -> String {
 fn the_second_writing_has_the_same_answer_and_state_after_every_line() {
     for seed in SEEDS {
         let (mut scripts, mut second) = (Scripts::new(seed), None);
-        for _ in 0..LINES {
+        for turn in 0..LINES {
             let (line, answered) = scripts.play();
             let answer = answered.map_or("?".into(), |(_, answer)| answer.to_string());
             let shown = String::from_utf8_lossy(&line);
             assert_eq!(second_answer(&mut second, &line), answer, "{shown}");
             match (scripts.machine.controller(), &second) {
+                (Some(gic), Some(second)) if turn % 8 == 0 => assert_same_words(gic, second),
                 (Some(gic), Some(second)) => assert_same_state(gic, second),
                 (gic, second) => assert_eq!(gic.is_some(), second.is_some()),
             }
@@ -162,6 +174,7 @@ fn from_any_state_too() {
     let mut refused_by_7 = 0;
     for _ in 0..1000 {
         let (mut machine, mut second, lines) = any_start(&mut random);
+        assert_same_words(machine.controller().unwrap(), second.as_ref().unwrap());
         for line in lines {
             let answer = lines::answer(&mut machine, &line).unwrap();
             let shown = String::from_utf8_lossy(&line);
