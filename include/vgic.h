@@ -4,8 +4,8 @@
  *
  * The caller lends the controller's whole state as words. The library keeps nothing else, allocates nothing and calls nothing. Every call
  * is defined for any numbers and for any lent words: `words` has to point to `length` words that may be read, and where it is not const
- * written, by nobody else during the call (any pointer where `length` is 0). A refused call leaves every word as it was, and words past
- * a state's size are never read and never written.
+ * written, by nobody else during the call (any pointer where `length` is 0); and `image`, apart from them, likewise to so many bytes. A
+ * refused call leaves every word and every byte as it was, and words past a state's size are never read and never written.
  *
  * An interrupt's number and a vCPU's number are never taken for one another: see the order of the arguments.
  */
@@ -35,10 +35,12 @@ enum vgic_refusal {
     VGIC_REFUSED_WIDTH = 2,        /* the register does not take this width, or it is none */
     VGIC_REFUSED_VCPU = 3,         /* there is no such vCPU */
     VGIC_REFUSED_LIMITS = 4,       /* setup: the count is not 1 to 8, or the limit not 32 to 1020 */
-    VGIC_REFUSED_SHORT_STATE = 5,  /* setup: too few words are lent */
+    VGIC_REFUSED_SHORT_STATE = 5,  /* setup, load: too few words are lent */
     VGIC_REFUSED_BROKEN_STATE = 6, /* the lent words are no controller's state */
     VGIC_REFUSED_FULL_STACK = 7,   /* an acknowledge, while 255 interrupts are under service */
-    VGIC_REFUSED_INPUT = 8         /* no device has this number: an SGI's, or not below the limit */
+    VGIC_REFUSED_INPUT = 8,        /* no device has this number: an SGI's, or not below the limit */
+    VGIC_REFUSED_IMAGE = 9,        /* load: the bytes are no image; save: the words hold what no calls lead to */
+    VGIC_REFUSED_ROOM = 10         /* save: the buffer is too short */
 };
 
 /* Why the call was refused; VGIC_ACCEPTED if it was not. */
@@ -47,7 +49,7 @@ static inline enum vgic_refusal vgic_answer_refusal(vgic_answer answer)
     return (enum vgic_refusal)(answer >> 56);
 }
 
-/* What was read; 0 for all but reads. */
+/* What was read, or the length of the image that was saved; 0 for all other calls. */
 static inline uint32_t vgic_answer_value(vgic_answer answer)
 {
     return (uint32_t)answer;
@@ -187,6 +189,48 @@ static inline int vgic_interrupt_owner(uint32_t word)
 {
     return (int)(word >> 24) - 1;
 }
+
+/*
+ * Moving a guest: its controller is saved as bytes, an image (docs/IMAGE.md), and loaded elsewhere, where it goes on as it would have here.
+ * An image does not depend on the machine, nor on VGIC_LAYOUT. Nobody calls for the guest between its save and its load.
+ */
+
+/*
+ * How many bytes the image of such a controller takes at the most: a buffer of so many is never refused by 10. 0 where count or limit is
+ * out of range, and at most VGIC_IMAGE_BYTES_MAX.
+ */
+uint64_t vgic_image_bytes(uint64_t count, uint64_t limit);
+
+#define VGIC_IMAGE_BYTES_MAX 16384
+
+/*
+ * Writes the image of the controller to the front of a buffer of `room` bytes, and no byte behind it; the value is its length. Changes no
+ * word. Refused by 6, then 9, then 10; by 9 never, if setup or load made the words and calls alone have changed them.
+ */
+vgic_answer vgic_save(const uint32_t *words, size_t length, uint8_t *image, size_t room);
+
+/*
+ * The count and limit that an image begins with, so that words can be lent for it before it is loaded. The rest is not looked at, and may
+ * still be refused. Refused by 9 where these are no numbers in range.
+ */
+vgic_answer vgic_image_shape(const uint8_t *image, size_t image_length);
+
+/* What the value of such an answer says: how many vCPUs, and the first number that is no interrupt. */
+static inline uint32_t vgic_shape_count(uint32_t shape)
+{
+    return shape & 0xffffu;
+}
+
+static inline uint32_t vgic_shape_limit(uint32_t shape)
+{
+    return shape >> 16;
+}
+
+/*
+ * Makes the words the controller that the image is of, whatever they held. Wakes nobody: vgic_irq_level tells whose line is up now. Any
+ * bytes may be given. Refused by 9 where they are no image, then by 5.
+ */
+vgic_answer vgic_load(uint32_t *words, size_t length, const uint8_t *image, size_t image_length);
 
 #ifdef __cplusplus
 }

@@ -1,12 +1,14 @@
 /*
- * A guest's first steps from C without a C library, for a bare Arm machine: the scope document's example, a device's line, and what may be
- * asked of both. So that it can be run, it ends by Linux's exit: status 0, or the number of the first step that was not answered as expected.
+ * A guest's first steps from C without a C library, for a bare Arm machine: the scope document's example, a device's line, what may be
+ * asked of both, and a move. So that it can be run, it ends by Linux's exit: status 0, or the number of the first step that was not answered
+ * as expected.
  */
 #include "vgic.h"
 
 enum { COUNT = 2, LIMIT = 40, WORDS = VGIC_STATE_WORDS(COUNT, LIMIT) };
 
-static uint32_t words[WORDS];
+static uint32_t words[WORDS], there[WORDS];
+static uint8_t image[VGIC_IMAGE_BYTES_MAX];
 static int step;
 
 _Noreturn static void leave(int status)
@@ -83,11 +85,24 @@ static void device(void)
            VGIC_INTERRUPT_ENABLED | VGIC_INTERRUPT_PENDING | VGIC_INTERRUPT_TARGETED | 2u << 16, 0, VGIC_SPURIOUS);
 }
 
+/* The guest moves to other words: SPI 33, pulsed above, is taken there. */
+static void moved(void)
+{
+    uint32_t length = vgic_answer_value(vgic_save(words, WORDS, image, sizeof image));
+
+    expect(vgic_image_shape(image, length), VGIC_ACCEPTED, COUNT | LIMIT << 16, 0, VGIC_SPURIOUS);
+    expect(vgic_load(there, WORDS, image, length - 1), VGIC_REFUSED_IMAGE, 0, 0, VGIC_SPURIOUS);
+    expect_done(vgic_load(there, WORDS, image, length));
+    expect(vgic_irq_level(there, WORDS, 1), VGIC_ACCEPTED, 1, 0, VGIC_SPURIOUS);
+    expect(vgic_read_v2_cpu_interface(there, WORDS, 1, VGIC_GICC_IAR, 4), VGIC_ACCEPTED, 33, 0, VGIC_SPURIOUS);
+}
+
 void _start(void)
 {
-    if (vgic_state_words(COUNT, LIMIT) != WORDS)
+    if (vgic_state_words(COUNT, LIMIT) != WORDS || vgic_image_bytes(COUNT, LIMIT) > sizeof image)
         leave(100);
     software_interrupt();
     device();
+    moved();
     leave(0);
 }

@@ -1,6 +1,7 @@
 /*
  * The scope document's example from C: each call as a line of the runner and its answer (refusal, value, wake set, retired number), a
- * device's line after it, and what may be asked of both. Ends with status 1 if an answer is not the expected one.
+ * device's line after it, what may be asked of both, and the guest's move to other words. Ends with status 1 if an answer is not the
+ * expected one.
  */
 #include "vgic.h"
 
@@ -110,6 +111,46 @@ static void asked(void)
     expect("interrupt 40", vgic_interrupt(words, WORDS, 2, 40), "0 0 0 1023");
 }
 
+static uint32_t there[WORDS + 1];
+static uint8_t image[VGIC_IMAGE_BYTES_MAX];
+
+static void differs(const char *what)
+{
+    printf("boot: %s\n", what);
+    failed = 1;
+}
+
+/* The guest moves to other words, which hold anything: SPI 33 waits at vCPU 1, as above, and is taken there. */
+static void moved(void)
+{
+    vgic_answer saved = vgic_save(words, WORDS, image, vgic_image_bytes(COUNT, LIMIT)), shape;
+    size_t length = vgic_answer_value(saved);
+
+    memset(there, 0x5a, sizeof there);
+    printf("saved: %d, %zu bytes\n", (int)vgic_answer_refusal(saved), length);
+    if (vgic_answer_refusal(saved) != VGIC_ACCEPTED || length == 0 || image[length - 1] == 0)
+        differs("no image");
+    expect("one byte too few", vgic_save(words, WORDS, image, length - 1), "10 0 0 1023");
+    shape = vgic_image_shape(image, length);
+    expect("its shape", shape, "0 2621442 0 1023");
+    if (vgic_shape_count(vgic_answer_value(shape)) != COUNT || vgic_shape_limit(vgic_answer_value(shape)) != LIMIT)
+        differs("another shape");
+    expect("no shape", vgic_image_shape(image, 1), "9 0 0 1023");
+    expect("one word too few", vgic_load(there, WORDS - 1, image, length), "5 0 0 1023");
+    expect("cut short", vgic_load(there, WORDS, image, length - 1), "9 0 0 1023");
+    if (there[0] != 0x5a5a5a5a || there[WORDS - 1] != 0x5a5a5a5a)
+        differs("a refused load has written");
+    expect("loaded", vgic_load(there, WORDS, image, length), "0 0 0 1023");
+    if (memcmp(there, words, WORDS * sizeof *words) != 0 || there[WORDS] != 0x5a5a5a5a)
+        differs("other words are loaded");
+    expect("irq level of 0 there", vgic_irq_level(there, WORDS, 0), "0 0 0 1023");
+    expect("irq level of 1 there", vgic_irq_level(there, WORDS, 1), "0 1 0 1023");
+    expect("c 1 12 4 there", vgic_read_v2_cpu_interface(there, WORDS, 1, VGIC_GICC_IAR, 4), "0 33 0 1023");
+    there[3 + 20] |= VGIC_INTERRUPT_PENDING; /* SGI 0, without a source */
+    expect("unlawful words", vgic_save(there, WORDS, image, 0), "9 0 0 1023");
+    expect("a header alone", vgic_save(there, 2, image, sizeof image), "6 0 0 1023");
+}
+
 /* What only a caller in another language can give: no width, words that are too few or none, words that are no state. */
 static void refused(void)
 {
@@ -130,10 +171,9 @@ int main(void)
     example();
     device();
     asked();
+    moved();
     refused();
-    if (words[WORDS] != 0xa5c30ff1) {
-        printf("boot: a word past the state has changed\n");
-        failed = 1;
-    }
+    if (words[WORDS] != 0xa5c30ff1)
+        differs("a word past the state has changed");
     return failed;
 }

@@ -1,6 +1,6 @@
 /*
  * How much stack each call of libvgic.a touches: below the caller's frame the stack is painted, the call is made, and the lowest byte that
- * is no longer paint is looked for. The calls are those of every place and width, and of a busy controller.
+ * is no longer paint is looked for. The calls are those of every place and width, of a busy controller, and of its image.
  */
 #include "vgic.h"
 #include <stdio.h>
@@ -40,7 +40,8 @@ __asm__(".text\n.global painted_call\npainted_call:\n"
 #error "no painted_call for this machine"
 #endif
 
-static uint32_t words[VGIC_STATE_WORDS_MAX];
+static uint32_t words[VGIC_STATE_WORDS_MAX], there[VGIC_STATE_WORDS_MAX];
+static uint8_t image[VGIC_IMAGE_BYTES_MAX];
 static const uint64_t length = sizeof words / sizeof *words;
 
 static uint64_t deepest(uint64_t so_far, const void *function, const uint64_t arguments[6])
@@ -107,20 +108,41 @@ static uint64_t of_input(const void *input)
     return used;
 }
 
+/* Saves into every room up to the image's length, and loads the image cut at every place, with one byte changed there, and whole. */
+static void moves(uint64_t *of_save, uint64_t *of_shape, uint64_t *of_load)
+{
+    uint64_t bytes = vgic_answer_value(vgic_save(words, length, image, sizeof image));
+    for (uint64_t at = 0; at <= bytes; at++) {
+        uint64_t save[6] = {(uint64_t)words, length, (uint64_t)image, at};
+        *of_save = deepest(*of_save, (const void *)vgic_save, save);
+        uint64_t cut[6] = {(uint64_t)there, length, (uint64_t)image, at}, whole[6] = {(uint64_t)there, length, (uint64_t)image, bytes};
+        uint64_t shape[6] = {(uint64_t)image, at};
+        *of_load = deepest(*of_load, (const void *)vgic_load, cut);
+        image[at] ^= (uint8_t)(1u << at % 8);
+        *of_load = deepest(*of_load, (const void *)vgic_load, whole);
+        *of_shape = deepest(*of_shape, (const void *)vgic_image_shape, shape);
+        image[at] ^= (uint8_t)(1u << at % 8);
+        *of_load = deepest(*of_load, (const void *)vgic_load, whole);
+    }
+}
+
 int main(void)
 {
-    uint64_t most[8] = {0}, of_words = 0, of_setup = 0;
+    enum { CALLS = 11 };
+    uint64_t most[CALLS] = {0}, of_words = 0, of_bytes = 0, of_setup = 0;
     for (uint64_t count = 0; count < 10; count++)
         for (uint64_t limit = 31; limit <= 1021; limit++) {
             uint64_t limits[6] = {count, limit}, setup[6] = {(uint64_t)words, limit % 7 ? length : limit, count, limit};
             of_words = deepest(of_words, (const void *)vgic_state_words, limits);
+            of_bytes = deepest(of_bytes, (const void *)vgic_image_bytes, limits);
             of_setup = deepest(of_setup, (const void *)vgic_setup, setup);
         }
-    printf("vgic_state_words %d\nvgic_setup %d\n", (int)of_words, (int)of_setup);
+    printf("vgic_state_words %d\nvgic_image_bytes %d\nvgic_setup %d\n", (int)of_words, (int)of_bytes, (int)of_setup);
     for (uint64_t count = 1; count <= 8; count += 7) {
         boot(count, count == 1 ? 40 : 1020);
-        uint64_t write = 0, read = 0;
+        uint64_t write = 0, read = 0, save = 0, shape = 0, load = 0;
         service(&read, &write);
+        moves(&save, &shape, &load);
         uint64_t level = of_input((const void *)vgic_set_level), pulse = of_input((const void *)vgic_pulse);
         uint64_t line = of_input((const void *)vgic_irq_level), record = of_input((const void *)vgic_interrupt);
         uint64_t used = of_frame((const void *)vgic_read_v2_cpu_interface, (const void *)vgic_write_v2_cpu_interface, 0x2000, &write);
@@ -128,13 +150,14 @@ int main(void)
         boot(count, count == 1 ? 40 : 1020);
         uint64_t to_distributor = 0;
         used = of_frame((const void *)vgic_read_v2_distributor, (const void *)vgic_write_v2_distributor, 0x1000, &to_distributor);
-        uint64_t all[8] = {used, to_distributor, read, write, level, pulse, line, record};
-        for (int i = 0; i < 8; i++)
+        uint64_t all[CALLS] = {used, to_distributor, read, write, level, pulse, line, record, save, shape, load};
+        for (int i = 0; i < CALLS; i++)
             most[i] = all[i] > most[i] ? all[i] : most[i];
     }
-    static const char *const names[8] = {"vgic_read_v2_distributor", "vgic_write_v2_distributor", "vgic_read_v2_cpu_interface",
-                                         "vgic_write_v2_cpu_interface", "vgic_set_level", "vgic_pulse", "vgic_irq_level", "vgic_interrupt"};
-    for (int i = 0; i < 8; i++)
+    static const char *const names[CALLS] = {"vgic_read_v2_distributor", "vgic_write_v2_distributor", "vgic_read_v2_cpu_interface",
+                                             "vgic_write_v2_cpu_interface", "vgic_set_level", "vgic_pulse", "vgic_irq_level", "vgic_interrupt",
+                                             "vgic_save", "vgic_image_shape", "vgic_load"};
+    for (int i = 0; i < CALLS; i++)
         printf("%s %d\n", names[i], (int)most[i]);
     return 0;
 }

@@ -14,6 +14,9 @@ const LIMIT: u64 = 40;
 const WORDS: usize = vgic::state_words(COUNT, LIMIT).expect("in range");
 
 static mut STATE: [u32; WORDS] = [0; WORDS];
+/// Where the guest moves to, and what is sent there.
+static mut ELSEWHERE: [u32; WORDS] = [0; WORDS];
+static mut IMAGE: [u8; vgic::MAX_IMAGE_BYTES] = [0; vgic::MAX_IMAGE_BYTES];
 
 const FIRST: GicVcpuId = GicVcpuId(0);
 const SECOND: GicVcpuId = GicVcpuId(1);
@@ -27,13 +30,15 @@ arch::global_asm!(".globl _start", "_start:", "call {main}", main = sym main);
 arch::global_asm!(".globl _start", "_start:", "bl {main}", main = sym main);
 
 extern "C" fn main() -> ! {
-    let words = &raw mut STATE;
-    // SAFETY: this is called once, and nobody else names the words.
-    let mut gic = Gic::lend(unsafe { &mut *words });
+    let (words, others, buffer) = (&raw mut STATE, &raw mut ELSEWHERE, &raw mut IMAGE);
+    // SAFETY: this is called once, and nobody else names the words and the buffer.
+    let (words, others, buffer) = unsafe { (&mut *words, &mut *others, &mut *buffer) };
+    let (mut gic, mut moved) = (Gic::lend(words), Gic::lend(others));
     let went = boot(&mut gic)
         .and_then(|()| send(&mut gic))
         .and_then(|()| device(&mut gic))
-        .and_then(|()| mistakes(&mut gic));
+        .and_then(|()| mistakes(&mut gic))
+        .and_then(|()| leave(&gic, buffer, &mut moved));
     exit(went.err().unwrap_or(0))
 }
 
@@ -93,6 +98,23 @@ fn mistakes(gic: &mut Gic) -> Result<(), u8> {
     let wide = gic.read_v2_distributor(FIRST, offset::GICD_ITARGETSR, AccessWidth::Qword);
     check(24, wide == Err(Refusal::Width))?;
     check(25, AccessWidth::try_from(3_usize) == Err(Refusal::Width))
+}
+
+/// The guest moves: vCPU 0, pulsed above, is to be woken elsewhere.
+fn leave(gic: &Gic, buffer: &mut [u8], moved: &mut Gic) -> Result<(), u8> {
+    let length = gic.save(buffer).map_err(|_| 26)?;
+    let room = vgic::image_bytes(COUNT, LIMIT);
+    check(27, room.is_some_and(|room| length <= room))?;
+    let image = buffer.get(..length).ok_or(28)?;
+    let shape = vgic::image_shape(image).map_err(|_| 29)?;
+    check(30, (shape.count, shape.limit) == (COUNT, LIMIT))?;
+    check(31, moved.load(&[]) == Err(Refusal::Image))?;
+    check(32, moved.load(image) == Ok(()))?;
+    let device = |gic: &Gic| gic.interrupt(FIRST, DEVICE);
+    check(33, device(moved) == device(gic))?;
+    check(34, moved.irq_level(FIRST) == Ok(true))?;
+    check(35, moved.irq_level(SECOND) == Ok(false))?;
+    check(36, taken(moved, FIRST) == Some(DEVICE))
 }
 
 /// The number of a step that did not go as it should.

@@ -18,7 +18,7 @@ pub struct Reply {
     pub retired: Option<IntId>,
 }
 
-/// Why a call was refused; the lent words are then as they were.
+/// Why a call was refused; the lent words, and a lent buffer, are then as they were.
 #[derive(Clone, Copy, Debug, PartialEq, Eq)]
 #[non_exhaustive]
 pub enum Refusal {
@@ -30,7 +30,7 @@ pub enum Refusal {
     Vcpu,
     /// 4: setup: the count is not 1 to 8, or the limit not 32 to 1020.
     Limits,
-    /// 5: setup: too few words are lent.
+    /// 5: setup, load: too few words are lent.
     ShortState,
     /// 6: the lent words are no controller's state.
     BrokenState,
@@ -38,6 +38,10 @@ pub enum Refusal {
     FullStack,
     /// 8: no device has this number: it is an SGI's, or not below the limit.
     Input,
+    /// 9: load: the bytes are no image; save: the words hold what no calls lead to.
+    Image,
+    /// 10: save: the buffer is too short.
+    Room,
     /// A number that has no name here: the linked library is later than this face.
     Other(u8),
 }
@@ -67,7 +71,7 @@ impl WakeSet {
 }
 
 impl Refusal {
-    /// The scope document's number, 1 to 8; any but 0 where the library is later than this face.
+    /// The documents' number, 1 to 10; any but 0 where the library is later than this face.
     pub const fn number(self) -> u8 {
         match self {
             Self::Access => 1,
@@ -78,6 +82,8 @@ impl Refusal {
             Self::BrokenState => 6,
             Self::FullStack => 7,
             Self::Input => 8,
+            Self::Image => 9,
+            Self::Room => 10,
             Self::Other(number) => number,
         }
     }
@@ -92,6 +98,8 @@ impl Refusal {
             6 => Self::BrokenState,
             7 => Self::FullStack,
             8 => Self::Input,
+            9 => Self::Image,
+            10 => Self::Room,
             other => Self::Other(other),
         }
     }
@@ -108,6 +116,8 @@ impl fmt::Display for Refusal {
             Self::BrokenState => "the lent words are no controller's state",
             Self::FullStack => "255 interrupts are under service",
             Self::Input => "no device has this number",
+            Self::Image => "the bytes are no image, or the words of no controller in use",
+            Self::Room => "the buffer is too short for the image",
             Self::Other(number) => return write!(f, "refused by {number}"),
         })
     }
@@ -164,7 +174,7 @@ mod tests {
         for number in 1..=u8::MAX {
             let refused = unpacked(u64::from(number) << 56 | 1023 << 32).unwrap_err();
             assert_eq!(refused.number(), number);
-            assert_eq!(refused == Refusal::Other(number), number > 8, "{refused}");
+            assert_eq!(refused == Refusal::Other(number), number > 10, "{refused}");
         }
     }
 }

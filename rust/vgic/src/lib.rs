@@ -48,6 +48,48 @@
 //! # }
 //! ```
 //!
+//! A guest moves to another host: its controller is saved as an image and loaded into other words, and whoever has an interrupt to take
+//! is woken there.
+//!
+//! ```
+//! use vgic::{AccessWidth::Dword, Gic, GicVcpuId, Refusal, offset};
+//!
+//! # fn main() -> Result<(), Refusal> {
+//! # const WORDS: usize = vgic::state_words(2, 40).expect("in range");
+//! # let mut words = [0; WORDS];
+//! # let mut gic = Gic::lend(&mut words);
+//! # gic.setup(2, 40)?;
+//! # let (first, second) = (GicVcpuId(0), GicVcpuId(1));
+//! # gic.write_v2_distributor(first, offset::GICD_CTLR, Dword, 1)?;
+//! # gic.write_v2_cpu_interface(second, offset::GICC_CTLR, Dword, 1)?;
+//! # gic.write_v2_cpu_interface(second, offset::GICC_PMR, Dword, 255)?;
+//! // vCPU 0 has sent SGI 5 to vCPU 1, which has not taken it yet. The guest is stopped: nobody makes a call any more.
+//! gic.write_v2_distributor(first, offset::GICD_SGIR, Dword, 0x0002_0005)?;
+//! let mut buffer = [0; vgic::MAX_IMAGE_BYTES];
+//! let length = gic.save(&mut buffer)?;
+//! let image = &buffer[..length];
+//!
+//! // On the other host the image tells how many words to lend. They may hold anything.
+//! let shape = vgic::image_shape(image)?;
+//! assert_eq!(vgic::state_words(shape.count, shape.limit), Some(WORDS));
+//! let mut elsewhere = [0xffff_ffff; WORDS];
+//! let mut moved = Gic::lend(&mut elsewhere);
+//! moved.load(image)?;
+//!
+//! // A load wakes nobody, so ask for every line: vCPU 1's is up, and it has to be woken.
+//! for vcpu in (0..shape.count).map(GicVcpuId) {
+//!     assert_eq!(moved.irq_level(vcpu)?, vcpu == second);
+//! }
+//!
+//! // It takes there what was sent here.
+//! assert_eq!(moved.read_v2_cpu_interface(second, offset::GICC_IAR, Dword)?.value, 5);
+//!
+//! // Bytes that are no image are refused, and the words are as they were.
+//! assert_eq!(moved.load(&image[..length - 1]), Err(Refusal::Image));
+//! # Ok(())
+//! # }
+//! ```
+//!
 //! To link it, `libvgic.a` has to lie where `build.rs` looks: in the folder that `VGIC_LIB_DIR` names, else in `target/archive/TARGET` of
 //! the repository, where `tools/archive --target TARGET target/archive/TARGET` writes it.
 #![no_std]
@@ -68,12 +110,14 @@
 )]
 
 mod answer;
+mod image;
 pub mod offset;
 pub mod raw;
 mod record;
 mod size;
 
 pub use answer::{Refusal, Reply, WakeSet};
+pub use image::{ImageShape, MAX_IMAGE_BYTES, image_bytes, image_shape};
 pub use record::{InterruptRecord, TriggerMode};
 pub use size::{LAYOUT, MAX_STATE_WORDS, state_words};
 
@@ -146,7 +190,7 @@ pub struct Gic<'a> {
 }
 
 impl<'a> Gic<'a> {
-    /// Over any words at all; words that are no state are refused by every call but [`setup`](Self::setup).
+    /// Over any words at all; words that are no state are refused by every call but [`setup`](Self::setup) and [`load`](Self::load).
     pub fn lend(words: &'a mut [u32]) -> Self {
         Self { words }
     }
@@ -256,6 +300,25 @@ impl<'a> Gic<'a> {
         // SAFETY: as in `read_v2_distributor`.
         let answer = unsafe { raw::vgic_interrupt(words, length, vcpu.0, number.0) };
         answer::unpacked(answer).map(|reply| InterruptRecord::from_word(reply.value))
+    }
+
+    /// Writes the controller's image to the front of the buffer, and no byte behind it; gives its length. [`image_bytes`] says how many
+    /// bytes are always enough. The words stay as they are.
+    pub fn save(&self, buffer: &mut [u8]) -> Result<usize, Refusal> {
+        let (words, length) = (self.words.as_ptr(), self.words.len());
+        let (image, room) = (buffer.as_mut_ptr(), buffer.len());
+        // SAFETY: the words are ours and are read only, and the buffer is lent to us for the call.
+        let answer = unsafe { raw::vgic_save(words, length, image, room) };
+        answer::unpacked(answer).map(|reply| reply.value as usize)
+    }
+
+    /// Makes the words the controller that the image is of, whatever they held; words past its size are not touched. It wakes nobody: ask
+    /// [`irq_level`](Self::irq_level) of every vCPU. Any bytes may be given, from anywhere: what is no image is refused.
+    pub fn load(&mut self, image: &[u8]) -> Result<(), Refusal> {
+        let (words, length) = self.lent();
+        // SAFETY: as in `setup`; the image is lent to us and is read only.
+        let answer = unsafe { raw::vgic_load(words, length, image.as_ptr(), image.len()) };
+        answer::unpacked(answer).map(|_| ())
     }
 
     fn lent(&mut self) -> (*mut u32, usize) {

@@ -1,5 +1,5 @@
 //! The C face as it is: `include/vgic.h`. The calls are sound for any numbers and for any words, as long as `words` may be read, and
-//! where it is `*mut` written, for `length` elements, and nobody else has them during the call.
+//! where it is `*mut` written, for `length` elements, and nobody else has them during the call; and so for the bytes of an image.
 //!
 //! An answer is one number: bits 0 to 31 value, 32 to 47 retired number (1023 for none), 48 to 55 wake set, 56 to 63 refusal (0 for
 //! none). A width is a number of bytes; any other than 1, 2, 4 and 8 is refused by 2 before anything else is looked at.
@@ -66,4 +66,16 @@ unsafe extern "C" {
 
     /// One interrupt's record, as the word that the state has of it.
     pub fn vgic_interrupt(words: *const u32, length: usize, vcpu: u64, number: u64) -> u64;
+
+    /// How many bytes an image of so many vCPUs and this limit takes at the most; 0 where one of them is out of range.
+    pub safe fn vgic_image_bytes(count: u64, limit: u64) -> u64;
+
+    /// Writes the controller's image; value: its length.
+    pub fn vgic_save(words: *const u32, length: usize, image: *mut u8, room: usize) -> u64;
+
+    /// What an image begins with: value count + 65536 * limit.
+    pub fn vgic_image_shape(image: *const u8, image_length: usize) -> u64;
+
+    /// Makes the words the controller that the image is of.
+    pub fn vgic_load(words: *mut u32, length: usize, image: *const u8, image_length: usize) -> u64;
 }

@@ -1,5 +1,7 @@
 //! That `include/vgic.h` and this face say the same: numbers, registers, refusals, bits, calls.
-use vgic::{IntId, InterruptRecord, LAYOUT, MAX_STATE_WORDS, Refusal, TriggerMode};
+use vgic::{
+    IntId, InterruptRecord, LAYOUT, MAX_IMAGE_BYTES, MAX_STATE_WORDS, Refusal, TriggerMode,
+};
 
 const HEADER: &str = include_str!("../../../include/vgic.h");
 
@@ -34,6 +36,8 @@ fn numbers() {
     assert_eq!(named("VGIC_LAYOUT"), [("", LAYOUT.into())]);
     let most = MAX_STATE_WORDS as u64;
     assert_eq!(named("VGIC_STATE_WORDS_MAX"), [("", most)]);
+    let most = MAX_IMAGE_BYTES as u64;
+    assert_eq!(named("VGIC_IMAGE_BYTES_MAX"), [("", most)]);
     assert_eq!(named("VGIC_SPURIOUS"), [("", IntId::SPURIOUS.0)]);
 }
 
@@ -59,6 +63,8 @@ fn refusals() {
         ("BROKEN_STATE", Refusal::BrokenState),
         ("FULL_STACK", Refusal::FullStack),
         ("INPUT", Refusal::Input),
+        ("IMAGE", Refusal::Image),
+        ("ROOM", Refusal::Room),
     ];
     let ours = ours.map(|(name, refusal)| (name, refusal.number().into()));
     assert_eq!(named("VGIC_REFUSED_"), ours);
@@ -96,5 +102,5 @@ fn calls() {
     let raw = include_str!("../src/raw.rs").lines();
     let ours = raw.filter_map(|line| between(line, "fn vgic_", "("));
     assert_eq!(declared, ours.collect::<Vec<_>>());
-    assert!(declared.contains(&"irq_level") && declared.contains(&"interrupt"));
+    assert!(declared.contains(&"irq_level") && declared.contains(&"load"));
 }
