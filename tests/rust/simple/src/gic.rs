@@ -9,16 +9,19 @@ const STACK: usize = 255;
 pub const SPURIOUS: u32 = 1023;
 pub const IIDR: u32 = 0x0002_043b;
 
-/// Why a call is refused, by document 01's numbers.
+/// Why a call is refused, by the numbers of documents 01 and 02.
 #[derive(Clone, Copy, Debug, PartialEq, Eq)]
 pub enum Refusal {
     Access = 1,
     Width = 2,
     Vcpu = 3,
     Limits = 4,
+    ShortState = 5,
     NoState = 6,
     FullStack = 7,
     Input = 8,
+    Image = 9,
+    Room = 10,
 }
 
 /// What an accepted call gives back.

@@ -1,8 +1,9 @@
 //! Document 01's rules in plain Rust, as one would write them in a day: records in a `Vec`, loops, a `match` on offsets. It is what
-//! `tests/bench` measures the library against, and owns its state.
+//! `tests/bench` measures the library against, and owns its state. `image`, by contrast, is over lent words, as what it is measured against.
 mod cpu_interface;
 mod distributor;
 mod gic;
+pub mod image;
 pub mod lines;
 mod record;
 
