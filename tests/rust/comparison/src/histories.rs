@@ -11,6 +11,7 @@ use oracle::{
     scripts::{Histories, random::Random},
     words::{size, within_limits},
 };
+use std::rc::Rc;
 
 /// Widths that are none; some would be, if they were cut to fewer bits.
 const NO_WIDTHS: [u64; 9] = [0, 3, 5, 6, 7, 16, (1 << 32) + 4, 1 << 63, u64::MAX];
@@ -54,11 +55,14 @@ impl Scenes {
         {
             self.passed_over = limit >= LARGE && self.random.percent(75);
             if !self.passed_over {
-                self.lend(pair, count as usize, limit as usize)?;
+                self.lend(pair, size(count as usize, limit as usize), &call.into())?;
             }
         }
         if self.passed_over {
             return Ok(());
+        }
+        if self.random.below(200) == 0 {
+            self.go_on_elsewhere(pair)?;
         }
         if self.random.percent(2) {
             let width = self.random.pick(&NO_WIDTHS);
@@ -69,30 +73,50 @@ impl Scenes {
         Ok(())
     }
 
-    /// Words with anything in them, as many as are needed or some more; at times too few first.
+    /// Saves the controller and loads it into other words, from where the history goes on; a save is refused where there is none yet.
+    fn go_on_elsewhere<L: Library>(&mut self, pair: &mut Pair<L>) -> Result<(), Difference> {
+        let room = pair.room();
+        if pair.call(&Request::Save { room })?.refusal == 0 {
+            self.load(pair, pair.image.as_slice().into())?;
+        }
+        Ok(())
+    }
+
+    /// Loads what was saved into other words.
+    pub fn load<L: Library>(
+        &mut self,
+        pair: &mut Pair<L>,
+        image: Rc<[u8]>,
+    ) -> Result<(), Difference> {
+        let &[count, limit, ..] = pair.words() else {
+            unreachable!("it was saved");
+        };
+        let load = Request::Load(image);
+        self.lend(pair, size(count as usize, limit as usize), &load)?;
+        pair.call(&load)?;
+        Ok(())
+    }
+
+    /// Words with anything in them, as many as are needed for the first call or some more; at times too few first.
     fn lend<L: Library>(
         &mut self,
         pair: &mut Pair<L>,
-        count: usize,
-        limit: usize,
+        enough: usize,
+        first: &Request,
     ) -> Result<(), Difference> {
-        let enough = size(count, limit);
         if self.random.percent(30) {
             let few = self
                 .random
                 .pick(&[0, 1, 2, 3, 99, enough - 255, enough - 1]);
             pair.lend(self.words(few));
-            pair.call(&Request::Setup {
-                count: count as u64,
-                limit: limit as u64,
-            })?;
+            pair.call(first)?;
         }
         let more = self.random.pick(&[0, 0, 0, 1, 8]);
         pair.lend(self.words(enough + more));
         Ok(())
     }
 
-    fn words(&mut self, length: usize) -> Vec<u32> {
+    pub fn words(&mut self, length: usize) -> Vec<u32> {
         (0..length).map(|_| self.random.number() as u32).collect()
     }
 

@@ -1,6 +1,6 @@
 //! Words that no history makes: any bits, any header, any length; and a few calls of them.
 use crate::{
-    Difference, Library,
+    Difference, Library, images,
     pair::Pair,
     request::{Place, Request},
 };
@@ -174,7 +174,9 @@ impl Shape {
             46..54 => self.interface_write(random),
             54..84 => self.distributor(random),
             84..92 => self.input(random),
-            92..98 => self.anywhere(random),
+            92..97 => self.anywhere(random),
+            97 => self.save(random),
+            98 => Request::Load(images::bytes(random).into()),
             _ => self.setup(random),
         }
     }
@@ -277,6 +279,12 @@ impl Shape {
         } else {
             Request::Write(at, random.number())
         }
+    }
+
+    /// Into too little, or enough.
+    fn save(self, random: &mut Random) -> Request {
+        let room = random.pick(&[0, 1, 90, 1000, 16 << 10, 16 << 10]);
+        Request::Save { room }
     }
 
     /// As it is, one that needs more or fewer words, or none.

@@ -1,9 +1,11 @@
-//! A library's calls beside the oracle's: after every call the same answer, and the same state word by word.
+//! A library's calls beside the oracle's: after every call the same answer, and the same state word by word. The oracle knows no images: of
+//! these the model says what is saved and what is loaded.
 //!
-//! `pair` makes a call of both and compares, and `question` says what is asked of both after it. `histories` and `lent` say which calls are
-//! made: histories from setup on, and calls of words that no history makes. `report` tells a difference with the calls that lead to it, and
-//! with the fewest that do.
+//! `pair` makes a call of both and compares, and `question` says what is asked of both after it. `histories`, `lent` and `images` say which
+//! calls are made: histories from setup on, calls of words that no history makes, and loads of what is an image and what is none. `report`
+//! tells a difference with the calls that lead to it, and with the fewest that do.
 pub mod histories;
+pub mod images;
 pub mod lent;
 pub mod memory;
 pub mod pair;
@@ -25,7 +27,10 @@ use tally::Tally;
 /// What is compared with the oracle: the calls of `libvgic.a`, with their packed answers.
 pub trait Library {
     fn state_words(&self, count: u64, limit: u64) -> u64;
-    fn call(&self, words: &mut [u32], request: &Request) -> u64;
+    fn image_bytes(&self, count: u64, limit: u64) -> u64;
+    fn image_shape(&self, image: &[u8]) -> u64;
+    /// A save writes into the buffer; other calls are lent none.
+    fn call(&self, words: &mut [u32], buffer: &mut [u8], request: &Request) -> u64;
     fn ask(&self, words: &[u32], question: &Question) -> u64;
 }
 
@@ -57,5 +62,6 @@ pub fn run<L: Library>(
         histories::shapes(pair, seed, calls / 10)
     })?;
     part("lent words", &|pair| lent::play(pair, seed, calls / 4))?;
+    part("images", &|pair| images::play(pair, seed, calls / 2))?;
     Ok(tallies)
 }

@@ -1,4 +1,4 @@
-//! What a caller lends, in the middle of words that are not lent, and what may become of it in a call.
+//! What a caller lends, in the middle of words or bytes that are not lent, and what may become of it in a call.
 use crate::{Difference, slots};
 use oracle::machine::Machine;
 
@@ -38,9 +38,7 @@ impl Memory {
         if self.now == self.should {
             return Ok(());
         }
-        let mut places = 0..self.now.len();
-        let place = places.find(|&at| self.now[at] != self.should[at]);
-        let place = place.expect("they are unlike, and equally long");
+        let place = first_unlike(&self.now, &self.should);
         let what = slots::name(&self.should[AROUND..], place.checked_sub(AROUND));
         let (oracle, library) = (self.should[place], self.now[place]);
         Err(Difference(format!(
@@ -65,5 +63,52 @@ impl Memory {
             }
         }
         self.stayed()
+    }
+}
+
+/// Where two begin to differ, that are unlike and equally long.
+fn first_unlike<T: PartialEq>(one: &[T], other: &[T]) -> usize {
+    let both = one.iter().zip(other);
+    both.take_while(|(one, other)| one == other).count()
+}
+
+/// A buffer for an image.
+pub struct Buffer {
+    now: Vec<u8>,
+    should: Vec<u8>,
+    room: usize,
+}
+
+impl Buffer {
+    /// Bytes that no image has in a row.
+    pub fn new(room: usize) -> Self {
+        let now = vec![0xee; room + 2 * AROUND];
+        Self {
+            should: now.clone(),
+            now,
+            room,
+        }
+    }
+
+    pub fn lent(&mut self) -> &mut [u8] {
+        &mut self.now[AROUND..][..self.room]
+    }
+
+    pub fn should(&mut self) -> &mut [u8] {
+        &mut self.should[AROUND..][..self.room]
+    }
+
+    /// Every byte is as it should be.
+    pub fn same(&self) -> Result<(), Difference> {
+        if self.now == self.should {
+            return Ok(());
+        }
+        let place = first_unlike(&self.now, &self.should);
+        let (model, library) = (self.should[place], self.now[place]);
+        let byte = place as isize - AROUND as isize;
+        Err(Difference(format!(
+            "byte {byte} of {}: model {model:#x}, library {library:#x}",
+            self.room
+        )))
     }
 }

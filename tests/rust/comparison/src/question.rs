@@ -26,8 +26,16 @@ impl Question {
 }
 
 /// The line of the vCPU that made the call, and the record that it was about; after every 16th call those of all vCPUs as well.
-/// The turn counts the calls: it takes the place of chance.
+/// The turn counts the calls: it takes the place of chance. A load wakes nobody, so after it every line is asked for.
 pub fn after(request: &Request, answer: &Answer, turn: u64, words: &[u32]) -> Vec<Question> {
+    if matches!(request, Request::Load(_)) {
+        let count = if answer.refusal == 0 {
+            words[0].into()
+        } else {
+            0
+        };
+        return (0..count).map(|vcpu| Question::IrqLevel { vcpu }).collect();
+    }
     let input = about(request, answer, turn);
     let vcpu = input.vcpu;
     let mut questions = vec![Question::IrqLevel { vcpu }, Question::Interrupt(input)];
@@ -53,7 +61,7 @@ pub fn after(request: &Request, answer: &Answer, turn: u64, words: &[u32]) -> Ve
 fn about(request: &Request, answer: &Answer, turn: u64) -> Input {
     let (vcpu, number) = match *request {
         Request::SetLevel(input, _) | Request::Pulse(input) => return input,
-        Request::Setup { .. } => (0, turn),
+        Request::Setup { .. } | Request::Save { .. } | Request::Load(_) => (0, turn),
         Request::Read(at) if at.region == CpuInterface => (at.vcpu, answer.value),
         Request::Write(at, value) if at.region == CpuInterface => (at.vcpu, value),
         Request::Read(at) | Request::Write(at, _) => (at.vcpu, turn),

@@ -1,5 +1,6 @@
 //! A difference told with the calls that lead to it, and with the fewest of them that do.
 use crate::{Difference, Library, pair::Pair, question::Question, request::Request};
+use model::image;
 use oracle::words::{size, within_limits};
 use std::{fmt::Write, ops::Range};
 
@@ -67,10 +68,16 @@ impl Case {
         found.map(|difference| Self::of(&pair, difference))
     }
 
-    /// Whether an accepted setup comes first, so that the words before it do not matter.
+    /// Whether an accepted setup or load comes first, so that the words before it do not matter.
     fn starts_fresh(&self) -> bool {
-        matches!(self.requests.first(), Some(&Request::Setup { count, limit })
-            if within_limits(count, limit) && size(count as usize, limit as usize) <= self.start.len())
+        match self.requests.first() {
+            Some(&Request::Setup { count, limit }) => {
+                within_limits(count, limit)
+                    && size(count as usize, limit as usize) <= self.start.len()
+            }
+            Some(Request::Load(image)) => image::load(&mut self.start.clone(), image).refusal == 0,
+            _ => false,
+        }
     }
 
     /// The runner's lines, the lent words before them where these matter, and the difference.

@@ -1,10 +1,10 @@
-//! A call as the C face takes it: any numbers at all, also a width that is none.
+//! A call as the C face takes it: any numbers at all, also a width that is none, and any bytes for an image.
 use oracle::{
     AccessWidth,
     RegisterRegion::{self, CpuInterface, Distributor},
     machine::{Access, Answer, Call, Input},
 };
-use std::fmt;
+use std::{fmt, rc::Rc};
 
 /// Where a register is read or written, and by whom; the width is a number.
 #[derive(Clone, Copy, Debug, PartialEq, Eq)]
@@ -15,17 +15,19 @@ pub struct Place {
     pub width: u64,
 }
 
-#[derive(Clone, Copy, Debug, PartialEq, Eq)]
+#[derive(Clone, Debug, PartialEq, Eq)]
 pub enum Request {
     Setup { count: u64, limit: u64 },
     Read(Place),
     Write(Place, u64),
     SetLevel(Input, bool),
     Pulse(Input),
+    Save { room: usize },
+    Load(Rc<[u8]>),
 }
 
 impl Request {
-    /// The call, unless its width is none.
+    /// The oracle's call: none where the width is none, and none of images.
     pub fn call(&self) -> Option<Call> {
         Some(match *self {
             Self::Setup { count, limit } => Call::Setup { count, limit },
@@ -33,6 +35,7 @@ impl Request {
             Self::Write(at, value) => Call::Write(at.access()?, value),
             Self::SetLevel(input, asserted) => Call::SetLevel(input, asserted),
             Self::Pulse(input) => Call::Pulse(input),
+            Self::Save { .. } | Self::Load(_) => return None,
         })
     }
 
@@ -97,7 +100,7 @@ pub fn shown(packed: u64) -> String {
     format!("{refusal} {value} {wake} {retired}")
 }
 
-/// The runner's line.
+/// The runner's line; it has none for images.
 impl fmt::Display for Request {
     fn fmt(&self, f: &mut fmt::Formatter) -> fmt::Result {
         match self {
@@ -112,6 +115,11 @@ impl fmt::Display for Request {
             },
             Self::SetLevel(input, asserted) => write!(f, "l {input} {}", u8::from(*asserted)),
             Self::Pulse(input) => write!(f, "p {input}"),
+            Self::Save { room } => write!(f, "# save into {room} bytes"),
+            Self::Load(image) => {
+                write!(f, "# load ")?;
+                image.iter().try_for_each(|byte| write!(f, "{byte:02x}"))
+            }
         }
     }
 }

@@ -1,7 +1,10 @@
-//! That a comparison passes what is equal and finds what is not: the oracle itself in a library's place, as it is and spoiled.
+//! That a comparison passes what is equal and finds what is not: the oracle itself in a library's place, as it is and spoiled; and for images
+//! the plain writer and reader of tests/rust/simple, which are held to the second writing by this.
 use crate::{
-    Library,
+    Library, images,
+    pair::Pair,
     question::Question,
+    report::Case,
     request::{Request, packed},
     run,
     tally::Tally,
@@ -12,6 +15,7 @@ use oracle::{
     register::{GICC_EOIR, GICC_IAR, GICD_ITARGETSR},
     words::{HEADER, STACK, VCPU, size, within_limits},
 };
+use simple::image;
 
 /// What a spoiled library does beside its call: it sees the words before, and changes answer and words.
 type Spoil = fn(&Request, &[u32], &mut u64, &mut [u32]);
@@ -19,9 +23,13 @@ type Spoil = fn(&Request, &[u32], &mut u64, &mut [u32]);
 /// What it does to the answer of a question.
 type Lie = fn(&Question, &[u32], &mut u64);
 
+/// What it does in the place of a save or load.
+type Move = fn(&mut [u32], &mut [u8], &Request) -> u64;
+
 struct StandIn {
     spoil: Spoil,
     lie: Lie,
+    moved: Move,
 }
 
 const CALLS: u64 = 50_000;
@@ -35,9 +43,24 @@ impl Library for StandIn {
         }
     }
 
-    fn call(&self, words: &mut [u32], request: &Request) -> u64 {
+    fn image_bytes(&self, count: u64, limit: u64) -> u64 {
+        match (u32::try_from(count), u32::try_from(limit)) {
+            (Ok(count), Ok(limit)) => image::room(count, limit).unwrap_or(0) as u64,
+            _ => 0,
+        }
+    }
+
+    fn image_shape(&self, image: &[u8]) -> u64 {
+        let shape = image::shape(image);
+        told(shape.map(|(count, limit)| count + 65536 * limit))
+    }
+
+    fn call(&self, words: &mut [u32], buffer: &mut [u8], request: &Request) -> u64 {
         let before = words.to_vec();
-        let mut given = packed(&self.answer(words, request));
+        let mut given = match request {
+            Request::Save { .. } | Request::Load(_) => (self.moved)(words, buffer, request),
+            _ => packed(&self.answer(words, request)),
+        };
         (self.spoil)(request, &before, &mut given, words);
         given
     }
@@ -53,6 +76,7 @@ impl StandIn {
     const SOUND: Self = Self {
         spoil: |_, _, _, _| {},
         lie: |_, _, _| {},
+        moved: plain,
     };
 
     fn answer(&self, words: &mut [u32], request: &Request) -> Answer {
@@ -75,6 +99,22 @@ impl StandIn {
     }
 }
 
+/// The plain writer and reader.
+fn plain(words: &mut [u32], buffer: &mut [u8], request: &Request) -> u64 {
+    match request {
+        Request::Save { .. } => told(image::save(words, buffer)),
+        Request::Load(image) => told(image::load(words, image).map(|()| 0)),
+        _ => unreachable!("no call of an image"),
+    }
+}
+
+fn told(answer: Result<usize, simple::Refusal>) -> u64 {
+    match answer {
+        Ok(value) => value as u64 | 1023 << 32,
+        Err(refusal) => (refusal as u64) << 56 | 1023 << 32,
+    }
+}
+
 /// Writes what does not mean what it should, the depths first: they say which entries mean anything.
 fn put(words: &mut [u32], after: &[u32]) {
     let mut meaning = vec![];
@@ -93,6 +133,10 @@ fn what_is_equal_passes() {
     let tallies = run(&StandIn::SOUND, 1, CALLS);
     let tallies = tallies.unwrap_or_else(|case| panic!("{}", case.text()));
     for (name, tally) in &tallies[1..] {
+        if *name == "images" {
+            assert!(tally.saved > 500 && tally.loaded > 2000, "{tally}");
+            continue;
+        }
         assert!(tally.calls >= CALLS / 10, "{name}: {tally}");
         assert!(tally.acknowledges > 50, "{name}: {tally}");
         assert!(tally.retirements > 20, "{name}: {tally}");
@@ -116,6 +160,16 @@ fn found_in(library: StandIn, at_most: usize) {
 fn found(at_most: usize, spoil: Spoil) {
     let sound = StandIn::SOUND;
     found_in(StandIn { spoil, ..sound }, at_most);
+}
+
+/// Where images are played alone.
+fn found_moving(at_most: usize, moved: Move) {
+    let sound = StandIn::SOUND;
+    let library = StandIn { moved, ..sound };
+    let mut pair = Pair::new(&library);
+    let difference = images::play(&mut pair, 1, CALLS).expect_err("a spoiled library");
+    let case = Case::of(&pair, difference).shrunk(&library);
+    assert!(case.requests.len() <= at_most, "{}", case.text());
 }
 
 fn found_out(at_most: usize, lie: Lie) {
@@ -290,6 +344,129 @@ fn a_rule_that_only_lent_words_show_is_found() {
         if before.first() == Some(&2) && second > 255 && *given >> 56 == 6 {
             *given = 1023 << 32;
         }
+    });
+}
+
+/// What no call may have done, where a load was accepted: the words as they were before it, and now.
+fn after_load(
+    words: &mut [u32],
+    buffer: &mut [u8],
+    request: &Request,
+    change: fn(&[u32], &mut [u32]),
+) -> u64 {
+    let before = words.to_vec();
+    let given = plain(words, buffer, request);
+    if matches!(request, Request::Load(_)) && given >> 56 == 0 {
+        change(&before, words);
+    }
+    given
+}
+
+#[test]
+fn a_wrong_save_is_found() {
+    // A byte written though there is no room; one past the image; an unlawful state saved; refused by 9 for 10; a length too many.
+    found_moving(3, |words, buffer, request| {
+        let given = plain(words, buffer, request);
+        if let (Some(first), 10) = (buffer.first_mut(), given >> 56) {
+            *first = 1;
+        }
+        given
+    });
+    found_moving(3, |words, buffer, request| {
+        let given = plain(words, buffer, request);
+        if let Some(past) = buffer.get_mut(given as u32 as usize)
+            && given >> 56 == 0
+        {
+            *past = 0;
+        }
+        given
+    });
+    found_moving(1, |words, buffer, request| {
+        let sgi = words.get(HEADER + 20).copied();
+        let given = plain(words, buffer, request);
+        match sgi {
+            Some(word) if given >> 56 == 9 && word & 0xff == 0x43 => 1023 << 32,
+            _ => given,
+        }
+    });
+    found_moving(3, |words, buffer, request| {
+        let given = plain(words, buffer, request);
+        given ^ (u64::from(given >> 56 == 10) * (3 << 56))
+    });
+    found_moving(3, |words, buffer, request| {
+        let given = plain(words, buffer, request);
+        given + u64::from(given as u32 != 0)
+    });
+}
+
+#[test]
+fn what_is_no_image_and_is_taken_is_found() {
+    // A byte after the end; a number in more groups than it needs; one that is cut to a byte.
+    found_moving(1, |words, buffer, request| {
+        match (plain(words, buffer, request), request) {
+            (given, Request::Load(image)) if given >> 56 == 9 && image.last() == Some(&0) => plain(
+                words,
+                buffer,
+                &Request::Load(image[..image.len() - 1].into()),
+            ),
+            (given, _) => given,
+        }
+    });
+    found_moving(1, |words, buffer, request| {
+        match (plain(words, buffer, request), request) {
+            (given, Request::Load(image)) if given >> 56 == 9 => {
+                let longer = image
+                    .windows(2)
+                    .position(|two| two[0] >= 128 && two[1] == 0);
+                let shorter = longer.map(|at| {
+                    let group = [image[at] - 128];
+                    [&image[..at], &group, &image[at + 2..]].concat()
+                });
+                shorter.map_or(given, |it| plain(words, buffer, &Request::Load(it.into())))
+            }
+            (given, _) => given,
+        }
+    });
+    found_moving(1, |words, buffer, request| {
+        match (plain(words, buffer, request), request) {
+            (given, Request::Load(image)) if given >> 56 == 9 && image.get(3) == Some(&2) => {
+                let cut = [&image[..3], &[0], &image[4..]].concat();
+                plain(words, buffer, &Request::Load(cut.into()))
+            }
+            (given, _) => given,
+        }
+    });
+}
+
+#[test]
+fn a_wrong_load_is_found() {
+    // A private owner forgotten; the unset mark taken for a mask of 0; an old entry left on a stack; a refused load that writes.
+    found_moving(2, |words, buffer, request| {
+        after_load(words, buffer, request, |_, words| {
+            let own = &mut words[HEADER + 20..HEADER + VCPU];
+            own.iter_mut().for_each(|word| *word &= 0x00ff_ffff);
+        })
+    });
+    found_moving(1, |words, buffer, request| {
+        after_load(words, buffer, request, |_, words| {
+            if words[1] > 32 {
+                words[HEADER + VCPU * words[0] as usize] |= 0x80;
+            }
+        })
+    });
+    found_moving(1, |words, buffer, request| {
+        after_load(words, buffer, request, |before, words| {
+            let (own, stack) = places(words, 0);
+            let dead = stack + words[own + 3] as usize;
+            words[dead] = before[dead];
+        })
+    });
+    found_moving(1, |words, buffer, request| {
+        let given = plain(words, buffer, request);
+        if let (Some(last), 9) = (words.last_mut(), given >> 56) {
+            *last ^= 1;
+        }
+        given
     });
 }
 

@@ -10,7 +10,11 @@ pub struct Tally {
     pub retirements: u64,
     pub wakes: u64,
     /// Answers by their refusal, 0 for none.
-    pub refusals: [u64; 9],
+    pub refusals: [u64; 11],
+    /// Images that were saved, those that were offered, and which of these were loaded.
+    pub saved: u64,
+    pub offered: u64,
+    pub loaded: u64,
     pub questions: u64,
     /// IRQ lines that are up, records that are not 0, questions that are refused.
     pub up: u64,
@@ -26,6 +30,15 @@ impl Tally {
         self.retirements += u64::from(answer.retired != SPURIOUS);
         self.wakes += u64::from(answer.wake != 0);
         self.refusals[usize::from(answer.refusal)] += 1;
+        let accepted = u64::from(answer.refusal == 0);
+        match request {
+            Request::Save { .. } => self.saved += accepted,
+            Request::Load(_) => {
+                self.offered += 1;
+                self.loaded += accepted;
+            }
+            _ => {}
+        }
     }
 
     pub fn note_question(&mut self, question: &Question, answer: &Answer) {
@@ -48,6 +61,9 @@ impl AddAssign for Tally {
         for (number, count) in self.refusals.iter_mut().zip(other.refusals) {
             *number += count;
         }
+        self.saved += other.saved;
+        self.offered += other.offered;
+        self.loaded += other.loaded;
         self.questions += other.questions;
         self.up += other.up;
         self.records += other.records;
@@ -63,6 +79,9 @@ impl fmt::Display for Tally {
             retirements,
             wakes,
             refusals,
+            saved,
+            offered,
+            loaded,
             questions,
             up,
             records,
@@ -77,7 +96,11 @@ impl fmt::Display for Tally {
         }
         write!(
             f,
-            "), {questions} questions ({up} IRQ lines up, {records} records, {refused_questions} refused)"
+            "), images: {saved} saved, {offered} offered, {loaded} loaded"
+        )?;
+        write!(
+            f,
+            ", {questions} questions ({up} IRQ lines up, {records} records, {refused_questions} refused)"
         )
     }
 }

@@ -15,13 +15,28 @@ impl Library for Vgic {
         raw::vgic_state_words(count, limit)
     }
 
-    fn call(&self, words: &mut [u32], request: &Request) -> u64 {
+    fn image_bytes(&self, count: u64, limit: u64) -> u64 {
+        raw::vgic_image_bytes(count, limit)
+    }
+
+    fn image_shape(&self, image: &[u8]) -> u64 {
+        // SAFETY: the bytes are lent to us for the call.
+        unsafe { raw::vgic_image_shape(image.as_ptr(), image.len()) }
+    }
+
+    fn call(&self, words: &mut [u32], buffer: &mut [u8], request: &Request) -> u64 {
         let (at, length) = (words.as_mut_ptr(), words.len());
-        // SAFETY: the words are lent to us for the call.
+        // SAFETY: the words and the buffer are lent to us for the call.
         match *request {
             Request::Setup { count, limit } => unsafe { raw::vgic_setup(at, length, count, limit) },
             Request::Read(place) => read(words, place),
             Request::Write(place, value) => write(words, place, value),
+            Request::Save { .. } => unsafe {
+                raw::vgic_save(at, length, buffer.as_mut_ptr(), buffer.len())
+            },
+            Request::Load(ref image) => unsafe {
+                raw::vgic_load(at, length, image.as_ptr(), image.len())
+            },
             Request::SetLevel(input, asserted) => unsafe {
                 raw::vgic_set_level(at, length, input.vcpu, input.number, asserted)
             },

@@ -1,11 +1,12 @@
-//! `driver [SEED [CALLS]]` compares libvgic.a with the oracle: after every call the answer and every word of the state, and what the
-//! library tells of IRQ lines and interrupts. It ends with status 1 and the calls that lead there where they differ.
+//! `driver [SEED [CALLS]]` compares libvgic.a with the oracle, and its images with the second writing: after every call the answer and every
+//! word of the state, every byte of an image, and what the library tells of IRQ lines and interrupts. It ends with status 1 and the calls that
+//! lead there where they differ.
 use comparison::{report::Case, run, tally::Tally};
 use driver::Vgic;
 use std::{env, process::ExitCode};
 
 const SEED: u64 = 1;
-/// Enough to come to every place of both frames, and to every count and limit.
+/// Enough to come to every place of both frames, and to every count and limit; half as many again are for images.
 const CALLS: u64 = 1_500_000;
 
 fn main() -> ExitCode {
@@ -41,7 +42,11 @@ fn print(tallies: &[(&str, Tally)]) {
     }
     println!("driver: {all}");
     println!(
-        "driver: {} calls and {} questions compared, every answer and every word equal",
+        "driver: {} images saved, {} offered, {} of them loaded, as the second writing has it",
+        all.saved, all.offered, all.loaded
+    );
+    println!(
+        "driver: {} calls and {} questions compared, every answer, every byte and every word equal",
         all.calls, all.questions
     );
 }

@@ -10,8 +10,16 @@ impl Library for Spoiled {
         Vgic.state_words(count, limit)
     }
 
-    fn call(&self, words: &mut [u32], request: &Request) -> u64 {
-        let answer = Vgic.call(words, request);
+    fn image_bytes(&self, count: u64, limit: u64) -> u64 {
+        Vgic.image_bytes(count, limit)
+    }
+
+    fn image_shape(&self, image: &[u8]) -> u64 {
+        Vgic.image_shape(image)
+    }
+
+    fn call(&self, words: &mut [u32], buffer: &mut [u8], request: &Request) -> u64 {
+        let answer = Vgic.call(words, buffer, request);
         if let (Request::Read(at), Some(last)) = (request, words.last_mut())
             && at.offset == 0x14
             && answer >> 56 == 0
@@ -34,8 +42,16 @@ impl Library for Silent {
         Vgic.state_words(count, limit)
     }
 
-    fn call(&self, words: &mut [u32], request: &Request) -> u64 {
-        Vgic.call(words, request)
+    fn image_bytes(&self, count: u64, limit: u64) -> u64 {
+        Vgic.image_bytes(count, limit)
+    }
+
+    fn image_shape(&self, image: &[u8]) -> u64 {
+        Vgic.image_shape(image)
+    }
+
+    fn call(&self, words: &mut [u32], buffer: &mut [u8], request: &Request) -> u64 {
+        Vgic.call(words, buffer, request)
     }
 
     fn ask(&self, words: &[u32], question: &Question) -> u64 {

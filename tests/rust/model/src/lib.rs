@@ -3,7 +3,9 @@
 //!
 //! The record's transitions are interrupt.rs's own, as document 01 asks.
 //!
-//! Request One is written here a second time too: `lawful` and `image`, over the lent words of docs/STATE.md (`words`).
+//! Request One is written here a second time too: `lawful` and `image`, over the lent words of docs/STATE.md (`words`); `edits` has
+//! changes that an image does not bear.
+pub mod edits;
 pub mod gic;
 pub mod image;
 mod lawful;
