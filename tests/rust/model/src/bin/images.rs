@@ -1,0 +1,255 @@
+//! Prints the fixed list of images, tests/lists/images.rows: saves and loads, each with what the second writing says of it.
+//!
+//! A row is a line of the runner, which is accepted; or one of these, where numbers are decimal and bytes two digits each, `-` for none:
+//! - `w PLACE WORD` gives a word of the state another value;
+//! - `s ROOM: REFUSAL BYTES` saves into so many bytes; `=` is the image that was saved last;
+//! - `e PLACE GONE PUT WORDS: REFUSAL SHAPE LINES SUM` changes the image that was saved last, so many bytes giving way to others, and loads it
+//!   into so many words: the value of its shape or 0 and, if it is loaded, the vCPUs whose lines are up and the sum of the words (FNV-1a,
+//!   hexadecimal).
+use model::{
+    edits::{self, Edit},
+    gic::Gic,
+    image,
+    lines::{parse, run},
+    words,
+};
+use std::fmt::Write;
+
+#[derive(Default)]
+struct List {
+    text: String,
+    words: Vec<u32>,
+    /// What was saved last.
+    image: Vec<u8>,
+}
+
+fn main() {
+    let mut list = List::default();
+    list.fresh();
+    list.busier();
+    list.served();
+    list.full();
+    list.largest();
+    list.unlawful();
+    print!("{}", list.text);
+}
+
+impl List {
+    fn lines(&mut self, lines: &[&str]) {
+        for line in lines {
+            let call = parse(line.as_bytes()).expect("a line of the runner");
+            let mut gic = words::read(&self.words);
+            assert_eq!(run(&mut gic, call).refusal, 0, "{line}");
+            self.words = words::write(&gic.expect("a controller"));
+            writeln!(self.text, "{line}").unwrap();
+        }
+    }
+
+    fn word(&mut self, place: usize, word: u32) {
+        self.words[place] = word;
+        writeln!(self.text, "w {place} {word}").unwrap();
+    }
+
+    fn save(&mut self, room: usize) {
+        let mut buffer = vec![0; room];
+        let answer = image::save(&self.words, &mut buffer);
+        buffer.truncate(answer.value as usize);
+        let bytes = if buffer == self.image {
+            "=".into()
+        } else {
+            shown(&buffer)
+        };
+        writeln!(self.text, "s {room}: {} {bytes}", answer.refusal).unwrap();
+        if answer.refusal == 0 {
+            self.image = buffer;
+        }
+    }
+
+    /// Into exactly enough, after one byte too few.
+    fn save_exactly(&mut self) {
+        let image = words::read(&self.words).and_then(|gic| gic.image());
+        let length = image.expect("lawful").len();
+        self.save(length - 1);
+        self.save(length);
+    }
+
+    fn edit(&mut self, edit: &Edit, room: usize) {
+        let image = edit.of(&self.image);
+        let mut loaded = vec![0; room];
+        let refusal = image::load(&mut loaded, &image).refusal;
+        let shape = image::shape(&image).value;
+        let Edit { at, gone, put } = edit;
+        let put = shown(put);
+        write!(self.text, "e {at} {gone} {put} {room}: {refusal} {shape}").unwrap();
+        match Gic::of_image(&image) {
+            Some(gic) if refusal == 0 => {
+                let size = words::size(gic.count, gic.limit);
+                let sum = sum(&loaded[..size]);
+                writeln!(self.text, " {} {sum:08x}", lines(&gic)).unwrap();
+            }
+            _ => writeln!(self.text).unwrap(),
+        }
+    }
+
+    /// Into as many words as the controller has.
+    fn edits(&mut self, edits: impl IntoIterator<Item = Edit>) {
+        for edit in edits {
+            self.edit(&edit, self.words.len());
+        }
+    }
+
+    /// The image as it is, into as many words as it takes, one fewer and so on.
+    fn rooms(&mut self) {
+        let (none, size) = (unchanged(), self.words.len());
+        for room in [size, size + 3, size - 1, 2, 1, 0] {
+            self.edit(&none, room);
+        }
+    }
+
+    /// Other numbers in the place of these.
+    fn others(&mut self, places: impl IntoIterator<Item = usize>) {
+        let numbers = edits::numbers(&self.image);
+        let starts: Vec<usize> = places.into_iter().map(|it| numbers[it].start).collect();
+        let others = edits::others(&self.image).into_iter();
+        self.edits(others.filter(|edit| starts.contains(&edit.at)));
+    }
+
+    /// docs/IMAGE.md's first example, and every change of it: other numbers in the header, the interface, the stack, the first SGI and PPI,
+    /// and the SPI.
+    fn fresh(&mut self) {
+        self.lines(&["n 1 33"]);
+        self.save_exactly();
+        self.rooms();
+        self.edits(edits::cuts(&self.image));
+        self.edits(edits::flips(&self.image));
+        self.edits(edits::longer(&self.image));
+        self.edits(edits::ends(&self.image));
+        self.others((0..10).chain([55, 56]).chain(87..91));
+    }
+
+    /// Its second.
+    fn busier(&mut self) {
+        self.lines(&[
+            "n 2 34",
+            "D 0 0 4 1",
+            "C 0 0 4 513",
+            "C 0 4 4 240",
+            "C 0 8 4 2",
+            "C 1 0 4 1",
+            "C 1 4 4 255",
+            "D 0 3840 4 16908293",
+            "D 1 3840 4 65539",
+            "D 0 1056 4 41120",
+            "D 0 2080 4 515",
+            "D 0 260 4 3",
+            "l 0 33 1",
+            "c 0 12 4",
+            "c 0 12 4",
+        ]);
+        self.save_exactly();
+        self.rooms();
+        self.edits(edits::flips(&self.image));
+        self.edits(edits::ends(&self.image));
+    }
+
+    /// Three under service, nested, one of them to come again; a PPI's line; a mask of 0 beside one that was never written.
+    fn served(&mut self) {
+        self.lines(&[
+            "n 3 36",
+            "D 0 0 4 1",
+            "C 2 0 4 1",
+            "C 2 4 4 255",
+            "D 2 1044 1 160", // PPI 20
+            "D 2 256 4 1048576",
+            "D 0 1056 1 128", // SPI 32
+            "D 0 2080 2 7",   // to all; 33 to nobody
+            "D 0 260 4 3",
+            "D 0 3080 4 2",
+            "l 2 20 1",
+            "c 2 12 4",
+            "p 0 32",
+            "c 2 12 4",
+            "p 0 32",
+            "D 1 3840 4 262151", // SGI 7 to vCPU 2
+            "c 2 12 4",
+            "D 0 3840 4 262151",
+        ]);
+        self.save_exactly();
+        self.rooms();
+        self.edits(edits::flips(&self.image));
+        self.others(12..21);
+    }
+
+    /// A full stack, whose priorities fall by one each.
+    fn full(&mut self) {
+        self.lines(&["n 1 32"]);
+        let (depth, stack) = (6, self.words.len() - 255);
+        self.word(depth, 255);
+        for (index, priority) in (0..255).rev().enumerate() {
+            self.word(stack + index, 31 + 1024 * priority);
+        }
+        self.save_exactly();
+        self.rooms();
+        self.others([6, 7, 8, 7 + 2 * 254, 8 + 2 * 254]);
+    }
+
+    fn largest(&mut self) {
+        self.lines(&["n 8 1020"]);
+        self.save_exactly();
+        self.rooms();
+        self.edits(edits::ends(&self.image)[..2].to_vec());
+        self.others([edits::numbers(&self.image).len() - 1]);
+    }
+
+    /// Each word in turn with one bit changed: some mean the same, some something else, and the rest are refused.
+    fn unlawful(&mut self) {
+        self.lines(&["n 2 33", "D 0 0 4 1", "C 1 0 4 1", "C 1 4 4 255"]);
+        self.lines(&["D 0 260 4 1", "D 0 2080 1 2", "l 0 32 1", "c 1 12 4"]);
+        let stacks = self.words.len() - 2 * 255;
+        let sgi = 3 + 20;
+        let places = [0, 1, 2, 3, 4, 5, 6, 7, sgi, sgi + 16, 58, stacks - 1];
+        for place in places
+            .into_iter()
+            .chain([stacks, stacks + 255, stacks + 256])
+        {
+            self.each_bit(place);
+        }
+    }
+
+    fn each_bit(&mut self, place: usize) {
+        let word = self.words[place];
+        for bit in 0..32 {
+            self.word(place, word ^ 1 << bit);
+            self.save(16384);
+        }
+        self.word(place, word);
+    }
+}
+
+fn unchanged() -> Edit {
+    Edit {
+        at: 0,
+        gone: 0,
+        put: vec![],
+    }
+}
+
+fn shown(bytes: &[u8]) -> String {
+    if bytes.is_empty() {
+        return "-".into();
+    }
+    bytes.iter().map(|byte| format!("{byte:02x}")).collect()
+}
+
+/// A bit for each vCPU whose line is up.
+fn lines(gic: &Gic) -> u64 {
+    let up = (0..gic.count).filter(|v| gic.irq_level(*v));
+    up.fold(0, |set, v| set | 1 << v)
+}
+
+fn sum(words: &[u32]) -> u32 {
+    let bytes = words.iter().flat_map(|word| word.to_le_bytes());
+    bytes.fold(2166136261, |sum, byte| {
+        (sum ^ u32::from(byte)).wrapping_mul(16777619)
+    })
+}
