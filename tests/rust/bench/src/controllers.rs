@@ -44,6 +44,10 @@ fn told(value: u32) -> Given {
 }
 
 impl Library {
+    pub fn into_words(self) -> Vec<u32> {
+        self.words
+    }
+
     fn gic(&mut self) -> Gic<'_> {
         Gic::lend(&mut self.words)
     }

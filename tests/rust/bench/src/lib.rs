@@ -1,6 +1,7 @@
 //! The library, the plain Rust and the oracle behind one trait, and the workloads that they are measured on.
 mod controllers;
 pub mod measure;
+pub mod moves;
 pub mod programs;
 pub mod workloads;
 

@@ -1,9 +1,10 @@
 //! `bench ROUNDS TURNS GENERAL` times the calls of two builds of the library, of the plain Rust and of the oracle: nanoseconds of processor
 //! time for each call, the median of the rounds. TURNS is the program `turns` with the one build, GENERAL with the one for general registers.
-//! All make the same calls, and where their answers differ it fails.
+//! All make the same calls, and where their answers differ it fails. Save and load, which the oracle does not have, stand by themselves.
 use bench::{
     Controller, Library, Oracle, Plain,
     measure::{Figure, turns_for},
+    moves,
     programs::{Measured, Outcome},
     workloads::{self, Shape},
 };
@@ -19,6 +20,11 @@ const SHAPES: [Shape; 2] = [
         limit: 64,
     },
 ];
+/// Of what is saved and loaded.
+const MOVED: Shape = Shape {
+    count: 8,
+    limit: 1020,
+};
 /// About how long a round of the plain Rust is. The others take as many turns.
 const NANOSECONDS: f64 = 30e6;
 
@@ -70,16 +76,37 @@ fn run(arguments: &[String]) -> Outcome<()> {
             show(workload.name, figures);
         }
     }
+    let [ours, general, simple, _] = all;
+    time_moves(&[ours, general, simple], rounds.get())
+}
+
+/// Save and load of a busy controller.
+fn time_moves(all: &[Measured; 3], rounds: usize) -> Outcome<()> {
+    let Shape { count, limit } = MOVED;
+    println!("{count} vCPUs, interrupts below {limit}, busy; as above");
+    for (index, name) in moves::NAMES.iter().enumerate() {
+        let turns = moves::turns_for(index, MOVED, NANOSECONDS);
+        let workload = workloads::all::<Plain>().len() + index;
+        let figures = figures(all, rounds, |it| it.time(workload, MOVED, turns))
+            .map_err(|why| format!("{name}: {why}"))?;
+        let [ours, general, simple] = figures.map(|it| it.median);
+        println!(
+            "{name:36}{} {:>28.2} {:>14.2}",
+            each(&figures),
+            ours / simple,
+            general / simple
+        );
+    }
     Ok(())
 }
 
 /// What comes of the rounds of one workload, in which all have to give the same answers.
-fn figures(
-    all: &[Measured; 4],
+fn figures<const N: usize>(
+    all: &[Measured; N],
     rounds: usize,
     time: impl Fn(&Measured) -> Outcome<(f64, String)>,
-) -> Outcome<[Figure; 4]> {
-    let mut times = [const { vec![] }; 4];
+) -> Outcome<[Figure; N]> {
+    let mut times = [const { vec![] }; N];
     let mut answers = None;
     for _ in 0..rounds {
         for (it, times) in all.iter().zip(&mut times) {
@@ -93,9 +120,17 @@ fn figures(
     Ok(times.map(Figure::of))
 }
 
+/// Every median with its spread.
+fn each(figures: &[Figure]) -> String {
+    let shown = |it: &Figure| format!("{:.1} ({:.0}%)", it.median, it.spread());
+    figures
+        .iter()
+        .map(|it| format!(" {:>16}", shown(it)))
+        .collect()
+}
+
 fn show(name: &str, figures: [Figure; 4]) {
-    let each = figures.map(|it| format!("{:.1} ({:.0}%)", it.median, it.spread()));
-    let each = each.map(|it| format!(" {it:>16}")).concat();
+    let each = each(&figures);
     let [ours, general, simple, oracle] = figures.map(|it| it.median);
     println!(
         "{name:36}{each} {:>11.2} {:>14.2} {:>13.1}",

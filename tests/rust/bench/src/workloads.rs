@@ -52,7 +52,7 @@ pub fn all<C: Controller>() -> [Workload<C>; 7] {
 }
 
 /// As a guest boots: every interface on, every interrupt enabled, level, sent to vCPU 0, at one of a few priorities. None is pending.
-fn boot<C: Controller>(gic: &mut C, shape: Shape) {
+pub fn boot<C: Controller>(gic: &mut C, shape: Shape) {
     gic.write_distributor(0, GICD_CTLR, 4, 1);
     for vcpu in 0..shape.count {
         gic.write_interface(vcpu, GICC_CTLR, 1);

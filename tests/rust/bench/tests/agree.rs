@@ -2,6 +2,7 @@
 use bench::{
     Controller, Library, Oracle, Plain, Sum,
     measure::{Figure, time},
+    moves,
     programs::Measured,
     workloads::{self, Shape},
 };
@@ -47,9 +48,40 @@ fn the_same_answers_by_a_program() {
         }
     }
     assert!(time(TURNS, "another", 0).is_err());
-    let none = workloads::all::<Library>().len();
+    let end = workloads::all::<Library>().len();
+    for index in end..end + moves::NAMES.len() {
+        let [ours, plain] = [Library::NAME, Plain::NAME].map(|it| time(TURNS, it, index));
+        assert_eq!(ours.expect("turns taken").1, plain.expect("turns taken").1);
+        assert!(time(TURNS, Oracle::NAME, index).is_err());
+    }
+    let none = end + moves::NAMES.len();
     assert!(time(TURNS, Library::NAME, none).is_err());
     assert!(time("true", Library::NAME, 0).is_err());
+}
+
+#[test]
+fn the_same_images_and_the_same_words() {
+    for (count, limit) in [(8, 1020), (2, 64)] {
+        let shape = Shape { count, limit };
+        for index in 0..moves::NAMES.len() {
+            let ours = moves::time::<Library>(index, shape, 2).map(|it| it.1);
+            let plain = moves::time::<Plain>(index, shape, 2).map(|it| it.1);
+            assert!(ours.is_some() && ours == plain, "{shape:?}");
+        }
+    }
+}
+
+/// It is no fresh controller that is saved and loaded.
+#[test]
+fn the_busy_one_is_busy() {
+    let words = moves::busy(Shape {
+        count: 8,
+        limit: 1020,
+    });
+    let records = &words[3 + 52 * 8..][..988];
+    let of = |flags: u32| records.iter().filter(|word| *word & flags != 0).count();
+    assert!(of(2) > 300 && of(8) == 32, "{} {}", of(2), of(8));
+    assert!((0..8).all(|vcpu| words[3 + 52 * vcpu + 3] == 4));
 }
 
 #[test]
