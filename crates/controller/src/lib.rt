@@ -1,5 +1,5 @@
-// The public calls: setup, the two frames under their Rust names, device inputs, and what a host may look at. None asks anything of its caller. Mirrors the entries
-// of v2.rs.
+// The public calls: setup, the two frames under their Rust names, device inputs, what a host may look at, and moving a guest. None asks
+// anything of its caller. Mirrors the entries of v2.rs.
 pub mod start;
 
 pub use answer::Answer;
@@ -10,6 +10,9 @@ pub use distributor_frame::read_v2_distributor;
 pub use distributor_frame::write_v2_distributor;
 pub use input::pulse;
 pub use input::set_level;
+pub use load::image_shape;
+pub use load::load;
 pub use look::interrupt_word;
 pub use look::irq_level;
+pub use save::save;
 pub use start::setup;

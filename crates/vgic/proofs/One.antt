@@ -4,7 +4,7 @@ use mathlib.Core.Bool.{Bool}
 use mathlib.Core.List.{List}
 use Prim.Native.Nat.{ℕ}
 use Rattle.answer.specs.Answer.{Outcome, AdmitsOne}
-use Rattle.vgic.specs.Packed.{PacksTo, VgicSetup, VgicReadDistributor, VgicWriteDistributor, VgicReadCpuInterface, VgicWriteCpuInterface, VgicSetLevel, VgicPulse, VgicIrqLevel, VgicInterrupt}
+use Rattle.vgic.specs.Packed.{PacksTo, VgicSetup, VgicReadDistributor, VgicWriteDistributor, VgicReadCpuInterface, VgicWriteCpuInterface, VgicSetLevel, VgicPulse, VgicIrqLevel, VgicInterrupt, VgicSave, VgicLoad, VgicImageShape}
 
 one : {meaning : Outcome} → AdmitsOne (λ number s. PacksTo number s meaning)
 one a b x y p q = (p .number-is ∙ sym (q .number-is), p .state-is ∙ sym (q .state-is))
@@ -35,3 +35,14 @@ vgic-irq-level-one v s = one
 
 pub vgic-interrupt-one : (v n : ℕ) (s : List ℕ) → AdmitsOne (VgicInterrupt v n s)
 vgic-interrupt-one v n s = one
+
+pub vgic-load-one : (image s : List ℕ) → AdmitsOne (VgicLoad image s)
+vgic-load-one image s = one
+
+pub vgic-image-shape-one : (image : List ℕ) → AdmitsOne (VgicImageShape image)
+vgic-image-shape-one image = one
+
+-- of a save, one buffer too
+pub vgic-save-one : (s buffer : List ℕ) (a b : ℕ) (x y u v : List ℕ) → VgicSave s buffer a x u → VgicSave s buffer b y v → (a ≡ b) × (x ≡ y) × (u ≡ v)
+vgic-save-one s buffer a b x y u v p q =
+    (p .number-is ∙ sym (q .number-is), p .state-is ∙ sym (q .state-is), p .buffer-is ∙ sym (q .buffer-is))

@@ -17,6 +17,8 @@ use Rattle.distributor_frame.specs.DistributorFrame.{readV2Distributor, writeV2
 use Rattle.cpu_interface_frame.specs.CpuInterfaceFrame.{readV2CpuInterface, writeV2CpuInterface}
 use Rattle.input.specs.Input.{deviceLevel, devicePulse}
 use Rattle.look.specs.Look.{irqLevel, interruptWord}
+use Rattle.load.specs.Load.{load, shapeStated}
+use Rattle.save.specs.Save.{Saved, save, imageBytes}
 use Rattle.controller.specs.Start.{setup}
 
 -- bits 0 to 31 the value, 32 to 47 the retired number, 48 to 55 the wake set, 56 to 63 the refusal
@@ -65,6 +67,30 @@ VgicIrqLevel v before number after = PacksTo number after (irqLevel v before)
 
 abbrev pub VgicInterrupt : ℕ → ℕ → List ℕ → ℕ → List ℕ → Type 0
 VgicInterrupt v n before number after = PacksTo number after (interruptWord v n before)
+
+-- of a save its number, and the words and the buffer after it
+pub record SavesTo (number : ℕ) (s buffer : List ℕ) (o : Saved) : Type 0 where
+  pub number-is : number ≡ packedAnswer (o .outcome)
+  pub state-is : s ≡ o .outcome .state
+  pub buffer-is : buffer ≡ o .buffer
+
+abbrev pub VgicSave : List ℕ → List ℕ → ℕ → List ℕ → List ℕ → Type 0
+VgicSave before buffer number after written = SavesTo number after written (save before buffer)
+
+abbrev pub VgicLoad : List ℕ → List ℕ → ℕ → List ℕ → Type 0
+VgicLoad image before number after = PacksTo number after (load image before)
+
+-- the lent bytes are the image
+abbrev pub VgicImageShape : List ℕ → ℕ → List ℕ → Type 0
+VgicImageShape image number after = PacksTo number after (shapeStated image)
+
+-- how many bytes an image takes at most, 0 where count or limit is out of range
+abbrev pub roomOf : Limited → ℕ
+roomOf Outside = 0
+roomOf (Within shape) = imageBytes shape
+
+abbrev pub imageRoom : ℕ → ℕ → ℕ
+imageRoom count limit = roomOf (limited count limit)
 
 -- how many words a state takes, 0 where count or limit is out of range
 abbrev pub sizeOf : Limited → ℕ

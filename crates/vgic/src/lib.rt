@@ -3,12 +3,13 @@ ghost use mathlib.Core.Path.{_≡_};
 ghost use mathlib.Core.List.{List};
 ghost use Prim.Native.Nat.{ℕ};
 ghost use Rattle.answer.specs.Answer.{outcome};
-ghost use Rattle.vgic.specs.Packed.{packedAnswer, stateWords, VgicSetup, VgicReadDistributor, VgicWriteDistributor, VgicReadCpuInterface, VgicWriteCpuInterface, VgicSetLevel, VgicPulse, VgicIrqLevel, VgicInterrupt};
+ghost use Rattle.vgic.specs.Packed.{packedAnswer, stateWords, VgicSetup, VgicReadDistributor, VgicWriteDistributor, VgicReadCpuInterface, VgicWriteCpuInterface, VgicSetLevel, VgicPulse, VgicIrqLevel, VgicInterrupt, VgicSave, VgicLoad, VgicImageShape, imageRoom};
 use controller::Answer;
 use interrupt::GicVcpuId;
 use register::AccessWidth;
 use register::DecodedWidth;
 use register::Refusal;
+use save::image_bytes;
 use state::Limited;
 use state::lent::validate_limits;
 
@@ -136,4 +137,35 @@ pub extern "C" fn vgic_interrupt(words: &[u32], vcpu: u64, number: u64) -> u64
     ensures { λ r. ⌜ VgicInterrupt vcpu number (now (words .entry)) r (now (words .entry)) ⌝ }
 {
     packed(controller::interrupt_word(words, GicVcpuId(vcpu as usize), number))
+}
+
+#[no_mangle]
+pub extern "C" fn vgic_image_bytes(count: u64, limit: u64) -> u64
+    ensures { λ r. ⌜ r ≡ imageRoom count limit ⌝ }
+{
+    match validate_limits(count, limit) {
+        Limited::Within(shape) => image_bytes(shape) as u64,
+        Limited::Outside => 0,
+    }
+}
+
+#[no_mangle]
+pub extern "C" fn vgic_save(words: &[u32], image: &mut [u8]) -> u64
+    ensures { λ r. ⌜ VgicSave (now (words .entry)) (now (image .entry)) r (now (words .entry)) (now (image .exit)) ⌝ }
+{
+    packed(controller::save(words, image))
+}
+
+#[no_mangle]
+pub extern "C" fn vgic_image_shape(image: &[u8]) -> u64
+    ensures { λ r. ⌜ VgicImageShape (now (image .entry)) r (now (image .entry)) ⌝ }
+{
+    packed(controller::image_shape(image))
+}
+
+#[no_mangle]
+pub extern "C" fn vgic_load(words: &mut [u32], image: &[u8]) -> u64
+    ensures { λ r. ⌜ VgicLoad (now (image .entry)) (now (words .entry)) r (now (words .exit)) ⌝ }
+{
+    packed(controller::load(words, image))
 }

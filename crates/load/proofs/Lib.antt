@@ -1,0 +1,4 @@
+-- Laws that belong to no one function.
+pub mod Numbers
+pub mod Openings
+pub mod Walks

@@ -1,0 +1,78 @@
+-- A walk by its steps: one that goes on has stored one thing more, one that was refused stays refused and stores no more. Assumes nothing.
+use mathlib.Core.Path.{_≡_, refl, sym, ap, _∙_}
+use mathlib.Core.Bool.{Bool, true, false, cond}
+use mathlib.Core.List.{List}
+use Prim.Native.Nat.{ℕ, zero, suc, _+_, _≤_, _<_}
+use native.Mathlib.Numerals.{add-one}
+use native.Mathlib.Omega.{arith}
+use lib.ListN.{length}
+use Rattle.word.proofs.Cases.{last-or}
+use Rattle.state.specs.declared.layout.Shape.{Shape}
+use Rattle.state.specs.declared.words.Entry.{Entry}
+use Rattle.state.specs.Layout.{Room}
+use Rattle.state.specs.Loop.{upTo}
+use Rattle.state.specs.Words.{withEntry}
+use Rattle.state.proofs.Steps.{up-idle}
+use Rattle.image.specs.Parts.{partAt}
+use Rattle.load.specs.declared.reading.FoundEntry.the-variants as entry
+use Rattle.load.specs.declared.walking.Place.the-variants.{At, Refused}
+use Rattle.load.specs.Reading.{entryFound}
+use Rattle.load.specs.Walking.{spot, lost, entryIn, entrySpot, entryStored, entriesStored, partEnd, partStored, walked, stepStored}
+
+pub cond-same : {X : Type 0} (b : Bool) (x : X) → cond b x x ≡ x
+cond-same true x = refl
+cond-same false x = refl
+
+-- a step stored on what was stored so far, or nothing at all
+pub stored-on : (b : Bool) (f : List ℕ → List ℕ) (w after x y start : List ℕ) → w ≡ cond b x start → after ≡ cond b (f w) w → y ≡ f x → after ≡ cond b y start
+stored-on true f w after x y start so-far e step = e ∙ (ap f so-far ∙ sym step)
+stored-on false f w after x y start so-far e step = e ∙ so-far
+
+-- words of the same length have the same room
+pub still-room : (shape : Shape) (stores : Bool) (s r : List ℕ) → length r ≡ length s → (stores ≡ true → Room shape s) → stores ≡ true → Room shape r
+still-room shape stores s r same room e = let h = room e in let enough = h .room in record { limits = h .limits; room = omega arith }
+
+-- what each step keeps holds from where it holds first
+onward : (P : ℕ → Type 0) → ((i : ℕ) → P i → P (suc i)) → (n m : ℕ) → m ≤ n → P m → P n
+onward P step zero m h p = let e : m ≡ 0 = omega arith in rw (← e) p
+onward P step (suc n) m h p = last-or m (suc n) (omega arith) (λ e. rw (← e) p) (λ b. step n (onward P step n m (omega arith) p))
+
+-- a step that is the last to store anything
+last-step : (f : ℕ → List ℕ → List ℕ) (s : List ℕ) (i n : ℕ) → i < n → ((j : ℕ) (r : List ℕ) → i < j → f j r ≡ r) → upTo f n s ≡ f i (upTo f i s)
+unfolding upTo
+last-step f s i n b idle = up-idle f s n (suc i) b (λ j r a _. idle j r a)
+
+module _ (shape : Shape) (image : List ℕ) (start : ℕ) where
+  pub lost-stays : (i n : ℕ) → i ≤ n → entrySpot shape image start i ≡ lost → entrySpot shape image start n ≡ lost
+  unfolding entrySpot
+  lost-stays i n h e = onward (λ j. entrySpot shape image start j ≡ lost) (λ j p. simp p) n i h e
+
+  pub refused-stays : (k n : ℕ) → k ≤ n → walked shape image start k ≡ Refused → walked shape image start n ≡ Refused
+  unfolding walked
+  refused-stays k n h e = onward (λ j. walked shape image start j ≡ Refused) (λ j p. simp p) n k h e
+
+  module _ (v i at above : ℕ) (s : List ℕ) (here : entrySpot shape image start i ≡ spot at above) where
+    pub entry-taken : (e : Entry) (next : ℕ) → entryFound shape above image at ≡ entry.Read e next
+        → (entrySpot shape image start (i + 1) ≡ spot next (e .priority .0)) × (entriesStored shape image v start (i + 1) s ≡ withEntry shape v i e (entriesStored shape image v start i s))
+    unfolding entrySpot entriesStored upTo
+    entry-taken e next found = (rw add-one (simp (here, found)), rw add-one (simp (here, found)))
+
+    pub entry-refused : (d : ℕ) → i < d → entryFound shape above image at ≡ entry.Refused
+        → (entrySpot shape image start d ≡ lost) × (entriesStored shape image v start d s ≡ entriesStored shape image v start i s)
+    unfolding entrySpot entriesStored
+    entry-refused d b found =
+        let gone : entrySpot shape image start (suc i) ≡ lost = simp (here, found) in
+        (lost-stays (suc i) d b gone, last-step (λ j. entryStored shape v j (entryIn shape image (entrySpot shape image start j))) s i d b (λ j r a. simp (lost-stays (suc i) j a gone)) ∙ simp (here, found))
+
+  module _ (k at : ℕ) (s : List ℕ) (here : walked shape image start k ≡ At at) where
+    pub part-taken : (next : ℕ) → partEnd shape image (partAt shape k) at ≡ At next
+        → (walked shape image start (k + 1) ≡ At next) × (upTo (stepStored shape image start) (k + 1) s ≡ partStored shape image (partAt shape k) at (upTo (stepStored shape image start) k s))
+    unfolding walked upTo
+    part-taken next end = (rw add-one (simp (here, end)), rw add-one (simp here))
+
+    pub part-refused : (n : ℕ) → k < n → partEnd shape image (partAt shape k) at ≡ Refused
+        → (walked shape image start n ≡ Refused) × (upTo (stepStored shape image start) n s ≡ partStored shape image (partAt shape k) at (upTo (stepStored shape image start) k s))
+    unfolding walked
+    part-refused n b end =
+        let gone : walked shape image start (suc k) ≡ Refused = simp (here, end) in
+        (refused-stays (suc k) n b gone, last-step (stepStored shape image start) s k n b (λ j r a. simp (refused-stays (suc k) j a gone)) ∙ simp here)

@@ -1,0 +1,3 @@
+pub mod Reading
+pub mod Walking
+pub mod Load

@@ -1,0 +1,19 @@
+-- Bytes and words: what is read of an image is what the words hold, what loading leaves, and request One's equalities.
+pub mod BytesNumbers
+pub mod BytesRegisters
+pub mod BytesFlags
+pub mod BytesRecord
+pub mod BytesService
+pub mod BytesParts
+pub mod StoredPlaces
+pub mod StoredRanges
+pub mod StoredParts
+pub mod StoredLeft
+pub mod Stored
+pub mod StoredSame
+pub mod LawfulParts
+pub mod Means
+pub mod Opens
+pub mod Walks
+pub mod Loads
+pub mod Moving

@@ -1,0 +1,4 @@
+pub mod Pieces
+pub mod Rest
+pub mod Bound
+pub mod Saved
