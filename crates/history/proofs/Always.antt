@@ -1,8 +1,10 @@
--- Demand 3: "Take a fresh controller and any sequence of calls, refused ones included, each acting as demand 2 defines it." What is here
--- is about the words that the calls leave, for every count and limit that setup accepts, whatever the lent words held before. Assumes nothing.
+-- Demand 3: "Take a fresh controller and any sequence of calls, refused ones included, each acting as demand 2 defines it", by request One
+-- "from a fresh or loaded controller". What is here is about the words that the calls leave, for every count and limit that setup accepts and
+-- every image that a load accepts, whatever the lent words held before. Assumes nothing.
 use mathlib.Core.Path.{_≡_, refl, sym, subst, _∙_}
 use mathlib.Core.Bool.{Bool, true, false, not, cond, true≢false}
 use mathlib.Core.List.{List, [], _∷_}
+use mathlib.Core.Logic.{_⊎_, inl, inr}
 use Prim.Native.Nat.{ℕ, _≤_, _<_}
 use native.Mathlib.Omega.{arith}
 use lib.Dec.{leb}
@@ -28,12 +30,17 @@ use Rattle.cpu_interface_frame.specs.CpuInterfaceFrame.{readAnswer}
 use Rattle.lawful.specs.Lawful.{Orderly, Controls, Controller}
 use Rattle.lawful.proofs.Depths.{at-most-capacity, offer-room}
 use Rattle.lawful.proofs.Starting.{fresh-controls}
+use Rattle.lawful_test.proofs.Passing.{lawful-passes}
+use Rattle.image.specs.Image.{image}
+use Rattle.save.specs.Save.{Saved, intoBuffer, save}
+use Rattle.load.specs.Load.{imageShape}
+use Rattle.moving.proofs.Loads.{load-cases}
 use Rattle.moves.proofs.Acknowledges.{each-acknowledge}
 use Rattle.moves.proofs.Controllers.{chain-controls}
 use Rattle.moves.proofs.Sounds.{lawful-sound}
-use Rattle.history.specs.History.{Call, Setup, Deed, Starts, deed, isSetup, called, run, answers, noSetup, Accepted, Ordinary, Each}
+use Rattle.history.specs.History.{Call, Setup, Save, Load, Deed, Starts, deed, isStart, called, run, answers, noStart, Accepted, Started, Ordinary, Each}
 use Rattle.history.proofs.Calls.{call-chain}
-use Rattle.history.proofs.Each.{few, Refusable, some-refusal, start-or-act, setup-or-other, valid, each-call}
+use Rattle.history.proofs.Each.{few, many, Refusable, some-refusal, start-or-act, into-cases, setup-load-or-other, valid, each-call}
 
 -- setup: refused, with nothing changed, or a fresh state of that count and limit
 module _ (count limit : ℕ) (s : List ℕ) (P : Outcome → Type 0)
@@ -61,12 +68,18 @@ module _ (count limit : ℕ) (s : List ℕ) (P : Outcome → Type 0)
 pub each-start : (s : List ℕ) (P : Call → Deed → Outcome → Type 0)
     → ((c : Call) (d : Deed) (r : Refusal) → Refusable c (refusalNumber r) → P c d (refused r s))
     → ((c : Call) (count limit : ℕ) (after : List ℕ) → Controls (shaped count limit) after → P c (Starts count limit) (gave 0 after))
-    → (c : Call) → isSetup c ≡ true → P c (deed c) (called c s)
+    → (c : Call) → isStart c ≡ true → P c (deed c) (called c s)
 each-start s P refuses starts =
-    setup-or-other (λ c. isSetup c ≡ true → P c (deed c) (called c s))
+    setup-load-or-other (λ c. isStart c ≡ true → P c (deed c) (called c s))
     (λ count limit e.
     let c : Call = Setup count limit in
     setup-cases count limit s (P c (Starts count limit)) (λ r may. refuses c (Starts count limit) r may) (starts c count limit (fresh (shaped count limit) s)))
+    (λ bytes e.
+    let c : Call = Load bytes in
+    load-cases bytes s (P c (deed c))
+    (refuses c (deed c) refusal.Unlawful (record { ordinary = many (omega arith); of-call = refl }))
+    (refuses c (deed c) refusal.ShortState (record { ordinary = few (omega arith); of-call = refl }))
+    (λ after controls long. starts c (imageShape bytes .count) (imageShape bytes .limit) after controls))
     (λ c other e. absurd (true≢false (sym e ∙ other)))
 
 -- "a fresh controller": what an accepted setup leaves, whatever the words held
@@ -74,13 +87,20 @@ pub a-fresh-controller : (count limit : ℕ) (s : List ℕ) → Accepted count l
 a-fresh-controller count limit s =
     setup-cases count limit s (λ o. o .refusal ≡ 0 → Controls (shaped count limit) (o .state)) (λ r may e. absurd (some-refusal r e)) (λ controls e. controls)
 
--- and every call that starts one, if it is accepted
-pub a-started-controller : (c : Call) (s : List ℕ) → isSetup c ≡ true → called c s .refusal ≡ 0 → Controller (called c s .state)
-a-started-controller c s =
-    each-start s (λ d k o. o .refusal ≡ 0 → Controller (o .state)) (λ d k r may e. absurd (some-refusal r e)) (λ d count limit after controls e. record { shape = shaped count limit; controls = controls }) c
+-- a loaded one: what an accepted load leaves, of the count and limit that its image states
+pub a-loaded-controller : (bytes s : List ℕ) → called (Load bytes) s .refusal ≡ 0 → Controls (imageShape bytes) (called (Load bytes) s .state)
+a-loaded-controller bytes s =
+    load-cases bytes s (λ o. o .refusal ≡ 0 → Controls (imageShape bytes) (o .state))
+    (λ e. absurd (some-refusal refusal.Unlawful e)) (λ e. absurd (some-refusal refusal.ShortState e)) (λ after controls long e. controls)
 
--- every call keeps a controller, of its count and limit if it is no setup
-pub every-other-call : (shape : Shape) (c : Call) → isSetup c ≡ false → (s : List ℕ) → Controls shape s → Controls shape (called c s .state)
+-- and every call that starts one, if it is accepted
+pub a-started-controller : (c : Call) (s : List ℕ) → Started c s → Controller (called c s .state)
+a-started-controller c s h =
+    each-start s (λ d k o. o .refusal ≡ 0 → Controller (o .state)) (λ d k r may e. absurd (some-refusal r e)) (λ d count limit after controls e. record { shape = shaped count limit; controls = controls })
+    c (h .starts) (h .accepted)
+
+-- every call keeps a controller, of its count and limit if it is no setup or load
+pub every-other-call : (shape : Shape) (c : Call) → isStart c ≡ false → (s : List ℕ) → Controls shape s → Controls shape (called c s .state)
 every-other-call shape c e s h = chain-controls (call-chain shape s (valid shape s h) c e) h
 
 pub every-call : (c : Call) (s : List ℕ) → Controller s → Controller (called c s .state)
@@ -96,11 +116,11 @@ unfolding run
 every-history [] s h = h
 every-history (c ∷ cs) s h = every-history cs (called c s .state) (every-call c s h)
 
-pub same-controller : (shape : Shape) (cs : List Call) → noSetup cs ≡ true → (s : List ℕ) → Controls shape s → Controls shape (run cs s)
+pub same-controller : (shape : Shape) (cs : List Call) → noStart cs ≡ true → (s : List ℕ) → Controls shape s → Controls shape (run cs s)
 unfolding run
 same-controller shape [] e s h = h
 same-controller shape (c ∷ cs) e s h =
-    same-controller shape cs (right-true (not (isSetup c)) (noSetup cs) e) (called c s .state) (every-other-call shape c (not-true (isSetup c) (left-true (not (isSetup c)) (noSetup cs) e)) s h)
+    same-controller shape cs (right-true (not (isStart c)) (noStart cs) e) (called c s .state) (every-other-call shape c (not-true (isStart c) (left-true (not (isStart c)) (noStart cs) e)) s h)
 
 -- no call to a controller is refused by 6, and no acknowledge by 7
 module _ (s : List ℕ) (h : Controller s) where
@@ -113,7 +133,7 @@ module _ (s : List ℕ) (h : Controller s) where
       (λ e exists p full. absurd (omega (arith, full, offer-room shape v s (h .controls .lawful .orderly) exists e p)))
       (λ e o. few (omega arith))
 
-  other-ordinary : (c : Call) → isSetup c ≡ false → Ordinary (called c s .refusal)
+  other-ordinary : (c : Call) → isStart c ≡ false → Ordinary (called c s .refusal)
   other-ordinary =
       each-call shape s (valid shape s (h .controls)) (λ c d o. Ordinary (o .refusal))
       (λ c d r may bar. may .ordinary)
@@ -134,18 +154,18 @@ module _ (s : List ℕ) (h : Controller s) where
 pub stored-controls : (s : List ℕ) → Controller s → Controls (shaped (getD s 0 0) (getD s 1 0)) s
 stored-controls s h = subst (λ (k : Shape). Controls k s) (h .controls .lawful .in-range .stored) (h .controls)
 
--- Demand 3 itself. The count and limit of a history are those that its words store: a later setup may have changed them.
-module _ (count limit : ℕ) (words : List ℕ) (accepted : Accepted count limit words) (cs : List Call) where
-  -- the words after setup and the calls
+-- Demand 3 itself. The count and limit of a history are those that its words store: a later setup or load may have changed them.
+module _ (first : Call) (words : List ℕ) (started : Started first words) (cs : List Call) where
+  -- the words after the setup or load and the calls
   abbrev pub after : List ℕ
-  after = run (Setup count limit ∷ cs) words
+  after = run (first ∷ cs) words
 
   abbrev pub stored : Shape
   stored = shaped (getD after 0 0) (getD after 1 0)
 
   controller : Controller after
   unfolding run
-  controller = every-history cs (called (Setup count limit) words .state) (record { shape = shaped count limit; controls = a-fresh-controller count limit words accepted })
+  controller = every-history cs (called first words .state) (a-started-controller first words started)
 
   pub always : Controls stored after
   always = stored-controls after controller
@@ -170,9 +190,17 @@ unfolding answers
 answers-ordinary [] s h = tt
 answers-ordinary (c ∷ cs) s h = (call-ordinary s h c, answers-ordinary cs (called c s .state) (every-call c s h))
 
-pub no-answer-is-6-or-7 : (count limit : ℕ) (words : List ℕ) → Accepted count limit words → (cs : List Call) → Each (λ a. Ordinary (a .refusal)) (answers (Setup count limit ∷ cs) words)
+pub no-answer-is-6-or-7 : (first : Call) (words : List ℕ) → Started first words → (cs : List Call) → Each (λ a. Ordinary (a .refusal)) (answers (first ∷ cs) words)
 unfolding answers
-no-answer-is-6-or-7 count limit words accepted cs = (
-  few (omega (arith, accepted)),
-  answers-ordinary cs (called (Setup count limit) words .state) (record { shape = shaped count limit; controls = a-fresh-controller count limit words accepted }),
-)
+no-answer-is-6-or-7 first words started cs = (few (omega (arith, started .accepted)), answers-ordinary cs (called first words .state) (a-started-controller first words started))
+
+-- a save finds a lawful state in a controller: it lacks nothing but room
+module _ (buffer : List ℕ) where
+  pub a-controller-is-saved : (shape : Shape) (s : List ℕ) → Controls shape s → save s buffer ≡ intoBuffer (image shape s) s buffer
+  unfolding save
+  a-controller-is-saved shape s h = simp (valid shape s h, lawful-passes shape s (h .lawful))
+
+  pub a-save-finds-a-lawful-state : (s : List ℕ) → Controller s → (called (Save buffer) s .refusal ≡ 0) ⊎ (called (Save buffer) s .refusal ≡ 10)
+  a-save-finds-a-lawful-state s h =
+      subst (λ (o : Saved). (o .outcome .refusal ≡ 0) ⊎ (o .outcome .refusal ≡ 10)) (sym (a-controller-is-saved (h .shape) s (h .controls)))
+      (into-cases (image (h .shape) s) s buffer (λ o. (o .refusal ≡ 0) ⊎ (o .refusal ≡ 10)) (inl refl) (inr refl))

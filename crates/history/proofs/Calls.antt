@@ -1,5 +1,5 @@
--- Every call but setup, to any words that pass the test of refusal 6, is a chain of moves, each one that the call makes; a refused call is the
--- chain of none. Assumes nothing.
+-- Every call but setup and load, to any words that pass the test of refusal 6, is a chain of moves, each one that the call makes; a refused call
+-- is the chain of none. Assumes nothing.
 use mathlib.Core.Path.{_≡_, refl, sym, _∙_}
 use mathlib.Core.Bool.{Bool, true, false, cond, _&&_}
 use mathlib.Core.List.{List}
@@ -31,7 +31,7 @@ use Rattle.moves.specs.Moves.{Change, Changed, Kept, Given, Popped, Chain, none
 use Rattle.moves.proofs.Acknowledges.{each-acknowledge}
 use Rattle.moves.proofs.Slots.{served, touched-kind}
 use Rattle.moves.proofs.Sounds.{chain-sound, chain-others}
-use Rattle.history.specs.History.{Call, Signals, isSetup, called}
+use Rattle.history.specs.History.{Call, Signals, isStart, called}
 use Rattle.history.specs.Made.{ReadMade, WriteMade, ActionMade, DeedMade, Made}
 use Rattle.history.proofs.Chains.{one, join, if-chain, place-chain}
 use Rattle.history.proofs.Each.{each-call}
@@ -79,7 +79,7 @@ module _ (shape : Shape) (s : List ℕ) (h : validated s ≡ lent.Sound shape) w
   signal-chain v n there past (Level asserted) = one (Changed v n (moves.SetLevel asserted)) refl (record { there = there; fits = past })
   signal-chain v n there past Edge = one (Changed v n moves.Pulse) refl (record { there = there; fits = past })
 
-  pub call-chain : (c : Call) → isSetup c ≡ false → Chain shape (Made shape c) s (called c s .state)
+  pub call-chain : (c : Call) → isStart c ≡ false → Chain shape (Made shape c) s (called c s .state)
   call-chain =
       each-call shape s h (λ c d o. Chain shape (DeedMade shape d) s (o .state))
       (λ c d r may bar. none)
@@ -91,7 +91,7 @@ module _ (shape : Shape) (s : List ℕ) (h : validated s ≡ lent.Sound shape) w
       (λ c v n signal there past. signal-chain v n there past signal)
 
   -- and the words stay a state of this count and limit
-  pub call-valid : (c : Call) → isSetup c ≡ false → validated (called c s .state) ≡ lent.Sound shape
+  pub call-valid : (c : Call) → isStart c ≡ false → validated (called c s .state) ≡ lent.Sound shape
   call-valid c e =
       let chain = call-chain c e in
       let after = chain-sound chain sound in

@@ -1,12 +1,13 @@
--- Every call but setup, to any words that pass the test of refusal 6, case by case of what kind it is: what it is refused by, what it answers
--- where nothing changes, and the four ways in which it changes something. What holds in each case holds of every call. Assumes nothing.
-use mathlib.Core.Path.{_≡_, refl, sym, subst, _∙_}
+-- Every call but setup and load, to any words that pass the test of refusal 6, case by case of what kind it is: what it is refused by, what it
+-- answers where nothing changes, and the four ways in which it changes something. What holds in each case holds of every call. Assumes nothing.
+use mathlib.Core.Path.{_≡_, refl, sym, ap, subst, _∙_}
 use mathlib.Core.Bool.{Bool, true, false, not, cond, _&&_, true≢false}
-use mathlib.Core.List.{List, [], _∷_}
+use mathlib.Core.List.{List, [], _∷_, _++_}
 use mathlib.Core.Option.{Option, none, some}
 use Prim.Native.Nat.{ℕ, _%_, _^_, _≤_, _<_}
 use native.Mathlib.Omega.{arith}
-use lib.Dec.{ltb}
+use lib.Dec.{leb, ltb}
+use lib.ListN.{length, drop}
 use borrow.Author.Tests.{ltb-true, lt-ltb, le-ltb}
 use Rattle.register.specs.declared.frame.AccessWidth.{AccessWidth}
 use Rattle.register.specs.declared.distributor.Place.{Place}
@@ -46,9 +47,12 @@ use Rattle.input.specs.declared.InputNumber.the-variants.{Device, Outside}
 use Rattle.input.specs.Input.{signalled, inputOf, inputAt, deviceInput}
 use Rattle.input.proofs.Passed.{input-there}
 use Rattle.look.specs.Look.{lineLevel, irqLevel, interruptWord}
+use Rattle.lawful_test.specs.LawfulTest.{isLawful}
+use Rattle.image.specs.Image.{image}
+use Rattle.save.specs.Save.{Saved, intoBuffer, savedFrom, save}
 use Rattle.lawful.specs.Lawful.{Controls}
 use Rattle.history.specs.Refusals.{refusals, listed}
-use Rattle.history.specs.History.{Ordinary, Call, Setup, ReadDistributor, WriteDistributor, ReadCpuInterface, WriteCpuInterface, SetLevel, Pulse, IrqLevel, InterruptWord, Looks, ReadsRegister, WritesRegister, WritesPlace, Signals, Deed, Starts, Acts, deed, startsAnew, isSetup, called}
+use Rattle.history.specs.History.{Ordinary, Call, Setup, ReadDistributor, WriteDistributor, ReadCpuInterface, WriteCpuInterface, SetLevel, Pulse, IrqLevel, InterruptWord, Save, Load, Looks, ReadsRegister, WritesRegister, WritesPlace, Signals, Deed, Starts, Acts, deed, startsAnew, isStart, called}
 use Rattle.register.specs.declared.frame.Refusal.{Refusal}
 use Rattle.register.specs.Frame.{refusalNumber, isDword, inFrame}
 use Rattle.state.specs.declared.lent.Limited.the-variants.{Outside}
@@ -56,6 +60,9 @@ use Rattle.places.proofs.Fits.{refused-access}
 
 pub few : {x : ℕ} → x ≤ 5 → Ordinary x
 few b = record { not-6 = λ e. absurd (omega (arith, b, e)); not-7 = λ e. absurd (omega (arith, b, e)) }
+
+pub many : {x : ℕ} → 8 ≤ x → Ordinary x
+many b = record { not-6 = λ e. absurd (omega (arith, b, e)); not-7 = λ e. absurd (omega (arith, b, e)) }
 
 -- the call c may be refused by x where its words are a state and it acknowledges nothing
 pub record Refusable (c : Call) (x : ℕ) : Type 0 where
@@ -122,33 +129,43 @@ input-is shape n = go (not (ltb n 16) && ltb n (shape .limit)) refl
     go true e = (refl, not-below n 16 (left-true (not (ltb n 16)) (ltb n (shape .limit)) e))
     go false e = λ below past. absurd (true≢false (simp (le-ltb n 16 past, lt-ltb n (shape .limit) below) at e))
 
--- a call starts a controller anew, or it acts on one
-pub start-or-act : (P : Call → Type 0) → ((c : Call) → isSetup c ≡ true → P c) → ((c : Call) → isSetup c ≡ false → P c) → (c : Call) → P c
-start-or-act P starts acts c = go (isSetup c) refl
+-- a lent buffer has room for some bytes, or not
+pub into-cases : (bytes s buffer : List ℕ) (P : Outcome → Type 0) → P (gave (length bytes) s) → P (refused refusal.NoRoom s) → P (intoBuffer bytes s buffer .outcome)
+into-cases bytes s buffer P room full = go (leb (length bytes) (length buffer))
   where
-    go : (b : Bool) → isSetup c ≡ b → P c
+    go : (b : Bool) → P (cond {A = Saved} b (record { outcome = gave (length bytes) s; buffer = bytes ++ drop (length bytes) buffer }) (record { outcome = refused refusal.NoRoom s; buffer = buffer }) .outcome)
+    go true = room
+    go false = full
+
+-- a call starts a controller anew, or it acts on one
+pub start-or-act : (P : Call → Type 0) → ((c : Call) → isStart c ≡ true → P c) → ((c : Call) → isStart c ≡ false → P c) → (c : Call) → P c
+start-or-act P starts acts c = go (isStart c) refl
+  where
+    go : (b : Bool) → isStart c ≡ b → P c
     go true e = starts c e
     go false e = acts c e
 
 -- what passes a test that no start passes is an act
-pub is-act : (test : Deed → Bool) → ((count limit : ℕ) → test (Starts count limit) ≡ false) → (c : Call) → test (deed c) ≡ true → isSetup c ≡ false
+pub is-act : (test : Deed → Bool) → ((count limit : ℕ) → test (Starts count limit) ≡ false) → (c : Call) → test (deed c) ≡ true → isStart c ≡ false
 is-act test never c = go (deed c)
   where
     go : (d : Deed) → test d ≡ true → startsAnew d ≡ false
     go (Starts count limit) e = absurd (true≢false (sym e ∙ never count limit))
     go (Acts a) e = refl
 
--- case by case: today a setup alone starts one
-pub setup-or-other : (P : Call → Type 0) → ((count limit : ℕ) → P (Setup count limit)) → ((c : Call) → isSetup c ≡ false → P c) → (c : Call) → P c
-setup-or-other P setup other (Setup count limit) = setup count limit
-setup-or-other P setup other (ReadDistributor v offset width) = other (ReadDistributor v offset width) refl
-setup-or-other P setup other (WriteDistributor v offset width value) = other (WriteDistributor v offset width value) refl
-setup-or-other P setup other (ReadCpuInterface v offset width) = other (ReadCpuInterface v offset width) refl
-setup-or-other P setup other (WriteCpuInterface v offset width value) = other (WriteCpuInterface v offset width value) refl
-setup-or-other P setup other (SetLevel v n asserted) = other (SetLevel v n asserted) refl
-setup-or-other P setup other (Pulse v n) = other (Pulse v n) refl
-setup-or-other P setup other (IrqLevel v) = other (IrqLevel v) refl
-setup-or-other P setup other (InterruptWord v n) = other (InterruptWord v n) refl
+-- case by case: a setup or a load starts one
+pub setup-load-or-other : (P : Call → Type 0) → ((count limit : ℕ) → P (Setup count limit)) → ((bytes : List ℕ) → P (Load bytes)) → ((c : Call) → isStart c ≡ false → P c) → (c : Call) → P c
+setup-load-or-other P setup load other (Setup count limit) = setup count limit
+setup-load-or-other P setup load other (ReadDistributor v offset width) = other (ReadDistributor v offset width) refl
+setup-load-or-other P setup load other (WriteDistributor v offset width value) = other (WriteDistributor v offset width value) refl
+setup-load-or-other P setup load other (ReadCpuInterface v offset width) = other (ReadCpuInterface v offset width) refl
+setup-load-or-other P setup load other (WriteCpuInterface v offset width value) = other (WriteCpuInterface v offset width value) refl
+setup-load-or-other P setup load other (SetLevel v n asserted) = other (SetLevel v n asserted) refl
+setup-load-or-other P setup load other (Pulse v n) = other (Pulse v n) refl
+setup-load-or-other P setup load other (IrqLevel v) = other (IrqLevel v) refl
+setup-load-or-other P setup load other (InterruptWord v n) = other (InterruptWord v n) refl
+setup-load-or-other P setup load other (Save buffer) = other (Save buffer) refl
+setup-load-or-other P setup load other (Load bytes) = load bytes
 
 pub valid : (shape : Shape) (s : List ℕ) → Controls shape s → validated s ≡ Sound shape
 valid shape s h = held-validated s shape (h .lawful .in-range)
@@ -240,7 +257,7 @@ module _ (shape : Shape) (s : List ℕ) (h : validated s ≡ Sound shape) (P : C
   input : (c : Call) → listed 8 (refusals c) ≡ true → listed 3 (refusals c) ≡ true → (v n : ℕ) (signal : Signal) (a : InputNumber) → inputOf shape n ≡ a → IsInput shape n a
       → P c (Acts (Signals v n signal)) (inputAt shape v signal a s)
   input c by-8 by-3 v n signal Outside p is =
-      refuses c (Acts (Signals v n signal)) refusal.Input (record { ordinary = record { not-6 = λ e. absurd (omega (arith, e)); not-7 = λ e. absurd (omega (arith, e)) }; of-call = by-8 })
+      refuses c (Acts (Signals v n signal)) refusal.Input (record { ordinary = many (omega arith); of-call = by-8 })
       (signal-barred v n signal (λ there past. is (there .numbered) past))
   input c by-8 by-3 v n signal (Device k) p is =
       looked c (Acts (Signals v n signal)) (record { ordinary = few (omega arith); of-call = by-3 }) (ltb (k .0) 32) v (went shape 1023 s (changed shape v (k .0) (signalled signal) s))
@@ -251,8 +268,15 @@ module _ (shape : Shape) (s : List ℕ) (h : validated s ≡ Sound shape) (P : C
   look : (c : Call) → listed 3 (refusals c) ≡ true → (v : ℕ) (looksUp : Bool) (x : ℕ) → P c (Acts (Looks none)) (lookedUp looksUp shape v s (gave x s))
   look c by-3 v looksUp x = looked c (Acts (Looks none)) (record { ordinary = few (omega arith); of-call = by-3 }) looksUp v (gave x s) (λ q. tt) (λ e. looks c none x)
 
-  pub each-call : (c : Call) → isSetup c ≡ false → P c (deed c) (called c s)
-  unfolding readV2Distributor writeV2Distributor readV2CpuInterface writeV2CpuInterface deviceInput irqLevel interruptWord
+  -- a host's save
+  saved : (buffer : List ℕ) (b : Bool) → P (Save buffer) (Acts (Looks none)) (cond {A = Saved} b (intoBuffer (image shape s) s buffer) (record { outcome = refused refusal.Unlawful s; buffer = buffer }) .outcome)
+  saved buffer true =
+      into-cases (image shape s) s buffer (P (Save buffer) (Acts (Looks none))) (looks (Save buffer) none (length (image shape s)))
+      (refuses (Save buffer) (Acts (Looks none)) refusal.NoRoom (record { ordinary = many (omega arith); of-call = refl }) tt)
+  saved buffer false = refuses (Save buffer) (Acts (Looks none)) refusal.Unlawful (record { ordinary = many (omega arith); of-call = refl }) tt
+
+  pub each-call : (c : Call) → isStart c ≡ false → P c (deed c) (called c s)
+  unfolding readV2Distributor writeV2Distributor readV2CpuInterface writeV2CpuInterface deviceInput irqLevel interruptWord save
   each-call (Setup count limit) e = absurd (true≢false e)
   each-call (ReadDistributor v offset width) e = rw h (distributor-read (ReadDistributor v offset width) (access refl) v offset width (locateDistributor offset width) refl)
   each-call (WriteDistributor v offset width value) e =
@@ -268,10 +292,12 @@ module _ (shape : Shape) (s : List ℕ) (h : validated s ≡ Sound shape) (P : C
       at-number : (b : Bool) → P (InterruptWord v n) (Acts (Looks none)) (cond b (lookedUp (ltb n 32) shape v s (gave (wordOf (recordAt shape v n s)) s)) (gave 0 s))
       at-number true = look (InterruptWord v n) refl v (ltb n 32) (wordOf (recordAt shape v n s))
       at-number false = looks (InterruptWord v n) none 0
+  each-call (Save buffer) e = subst (λ (l : Lent). P (Save buffer) (Acts (Looks none)) (savedFrom l s buffer .outcome)) (sym h) (saved buffer (isLawful shape s))
+  each-call (Load bytes) e = absurd (true≢false e)
 
 -- words that are no state are refused by 6
-pub broken-call : (c : Call) → isSetup c ≡ false → (s : List ℕ) → validated s ≡ Broken → (called c s ≡ refused refusal.BrokenState s) × (listed 6 (refusals c) ≡ true)
-unfolding readV2Distributor writeV2Distributor readV2CpuInterface writeV2CpuInterface deviceInput irqLevel interruptWord
+pub broken-call : (c : Call) → isStart c ≡ false → (s : List ℕ) → validated s ≡ Broken → (called c s ≡ refused refusal.BrokenState s) × (listed 6 (refusals c) ≡ true)
+unfolding readV2Distributor writeV2Distributor readV2CpuInterface writeV2CpuInterface deviceInput irqLevel interruptWord save
 broken-call (Setup count limit) e s p = absurd (true≢false e)
 broken-call (ReadDistributor v offset width) e s p = (rw p refl, refl)
 broken-call (WriteDistributor v offset width value) e s p = (rw p refl, refl)
@@ -281,10 +307,12 @@ broken-call (SetLevel v n asserted) e s p = (rw p refl, refl)
 broken-call (Pulse v n) e s p = (rw p refl, refl)
 broken-call (IrqLevel v) e s p = (rw p refl, refl)
 broken-call (InterruptWord v n) e s p = (rw p refl, refl)
+broken-call (Save buffer) e s p = (ap (λ (l : Lent). savedFrom l s buffer .outcome) p, refl)
+broken-call (Load bytes) e s p = absurd (true≢false e)
 
 -- to any words at all
 pub any-words : (s : List ℕ) (P : Call → Outcome → Type 0) → ((c : Call) → listed 6 (refusals c) ≡ true → P c (refused refusal.BrokenState s))
-    → ((shape : Shape) → validated s ≡ Sound shape → (c : Call) → isSetup c ≡ false → P c (called c s)) → (c : Call) → isSetup c ≡ false → P c (called c s)
+    → ((shape : Shape) → validated s ≡ Sound shape → (c : Call) → isStart c ≡ false → P c (called c s)) → (c : Call) → isStart c ≡ false → P c (called c s)
 any-words s P breaks holds c e = go (validated s) refl
   where
     go : (l : Lent) → validated s ≡ l → P c (called c s)

@@ -19,9 +19,11 @@ use Rattle.input.specs.declared.Signal.{Signal}
 use Rattle.input.specs.declared.Signal.the-variants.{Level, Edge}
 use Rattle.input.specs.Input.{deviceLevel, devicePulse}
 use Rattle.look.specs.Look.{irqLevel, interruptWord}
+use Rattle.save.specs.Save.{save}
+use Rattle.load.specs.Load.{imageShape, load}
 
 -- count and limit; vCPU, offset, width and, to write, value; for inputs vCPU, number and, for a line, its level; a vCPU, and
--- an interrupt's number, to look at
+-- an interrupt's number, to look at; the bytes of a lent buffer to save into, and of an image to load
 pub data Call : Type 0 where
   Setup : ℕ → ℕ → Call
   ReadDistributor : ℕ → ℕ → AccessWidth → Call
@@ -32,6 +34,8 @@ pub data Call : Type 0 where
   Pulse : ℕ → ℕ → Call
   IrqLevel : ℕ → Call
   InterruptWord : ℕ → ℕ → Call
+  Save : List ℕ → Call
+  Load : List ℕ → Call
 
 -- its numbers, of 64 bits each
 abbrev pub numbers : Call → List ℕ
@@ -44,6 +48,8 @@ numbers (SetLevel v n asserted) = v ∷ n ∷ []
 numbers (Pulse v n) = v ∷ n ∷ []
 numbers (IrqLevel v) = v ∷ []
 numbers (InterruptWord v n) = v ∷ n ∷ []
+numbers (Save buffer) = []
+numbers (Load bytes) = []
 
 -- what it does
 abbrev pub called : Call → List ℕ → Outcome
@@ -56,6 +62,8 @@ called (SetLevel v n asserted) s = deviceLevel v n asserted s
 called (Pulse v n) s = devicePulse v n s
 called (IrqLevel v) s = irqLevel v s
 called (InterruptWord v n) s = interruptWord v n s
+called (Save buffer) s = save s buffer .outcome
+called (Load bytes) s = load bytes s
 
 -- What kind of call it is: what is said of calls goes by this, and not by the calls. A call acts on the controller that is lent: it
 pub data Action : Type 0 where
@@ -70,7 +78,7 @@ pub data Action : Type 0 where
   -- signals this number, as a vCPU meets it;
   Signals : ℕ → ℕ → Signal → Action
 
--- or it starts one anew, of this count and limit
+-- or it starts one anew, of this count and limit: a load's are those that its image states
 pub data Deed : Type 0 where
   Starts : ℕ → ℕ → Deed
   Acts : Action → Deed
@@ -86,13 +94,16 @@ deed (SetLevel v n asserted) = Acts (Signals v n (Level asserted))
 deed (Pulse v n) = Acts (Signals v n Edge)
 deed (IrqLevel v) = Acts (Looks none)
 deed (InterruptWord v n) = Acts (Looks none)
+deed (Save buffer) = Acts (Looks none)
+deed (Load bytes) = Starts (imageShape bytes .count) (imageShape bytes .limit)
 
 abbrev pub startsAnew : Deed → Bool
 startsAnew (Starts count limit) = true
 startsAnew (Acts a) = false
 
-abbrev pub isSetup : Call → Bool
-isSetup c = startsAnew (deed c)
+-- a setup or a load
+abbrev pub isStart : Call → Bool
+isStart c = startsAnew (deed c)
 
 -- a guest's calls: a ring (a write to SGIR), an acknowledge (a read of IAR), an end (a write to EOIR), a deactivation (a write to DIR)
 abbrev pub sgirWrite : ℕ → ℕ → Call
@@ -127,14 +138,19 @@ unfoldable pub answers : List Call → List ℕ → List Handed
 answers [] s = []
 answers (c ∷ cs) s = handed (called c s) ∷ answers cs (called c s .state)
 
--- calls without a setup among them
-abbrev pub noSetup : List Call → Bool
-noSetup [] = true
-noSetup (c ∷ cs) = not (isSetup c) && noSetup cs
+-- calls without a setup or load among them
+abbrev pub noStart : List Call → Bool
+noStart [] = true
+noStart (c ∷ cs) = not (isStart c) && noStart cs
 
 -- setup accepts this count and limit in these words
 abbrev pub Accepted : ℕ → ℕ → List ℕ → Type 0
 Accepted count limit s = called (Setup count limit) s .refusal ≡ 0
+
+-- a call that starts a controller anew is accepted in these words: request One, "from a fresh or loaded controller"
+pub record Started (c : Call) (s : List ℕ) : Type 0 where
+  pub starts : isStart c ≡ true
+  pub accepted : called c s .refusal ≡ 0
 
 -- a refusal that is neither 6 nor 7
 pub record Ordinary (refusal : ℕ) : Type 0 where

@@ -38,7 +38,7 @@ use Rattle.input.specs.Input.{signalled}
 use Rattle.cpu_interface_frame.specs.CpuInterfaceFrame.{readAnswer, readV2CpuInterface}
 use Rattle.look.specs.Look.{lineLevel, irqLevel}
 use Rattle.lawful.specs.Lawful.{Controls, Controller}
-use Rattle.history.specs.History.{Call, Setup, ReadCpuInterface, IrqLevel, isSetup, called, Accepted, iarRead}
+use Rattle.history.specs.History.{Call, Setup, ReadCpuInterface, IrqLevel, isStart, called, Accepted, iarRead}
 use Rattle.history.specs.Touch.{handsOut}
 use Rattle.history.proofs.Always.{setup-cases, call-ordinary}
 use Rattle.history.proofs.Calls.{call-valid}
@@ -191,7 +191,7 @@ module _ (shape : Shape) (s : List ℕ) (h : validated s ≡ lent.Sound shape) (
           let exists = leb-false (shape .count) v q in
           rw (level-there shape s h v exists, level-there shape r k v exists) (lower exists (lineLevel shape v r) refl)
 
-  acting-right : (c : Call) → isSetup c ≡ false → Right (called c s)
+  acting-right : (c : Call) → isStart c ≡ false → Right (called c s)
   acting-right =
       each-call shape s h (λ c d o. Right o)
       (λ c d r may bar. unmoved (refused r s) refl refl)
@@ -206,7 +206,7 @@ module _ (shape : Shape) (s : List ℕ) (h : validated s ≡ lent.Sound shape) (
       (λ c u n signal there past. moved-right 1023 (changed shape u n (signalled signal) s))
 
 -- in any words: a call wakes exactly the vCPUs whose level was 0 before and is 1 after, save those whose IAR 7 would have refused before
-pub wakes-in-any-words : (c : Call) → isSetup c ≡ false → (s : List ℕ) (v : ℕ) → wakeBit v (called c s) ≡ bitOf (not (lacksRoom v s) && rises v s (called c s .state))
+pub wakes-in-any-words : (c : Call) → isStart c ≡ false → (s : List ℕ) (v : ℕ) → wakeBit v (called c s) ≡ bitOf (not (lacksRoom v s) && rises v s (called c s .state))
 wakes-in-any-words c e s v =
     any-words s (λ d o. wakeBit v o ≡ bitOf (not (lacksRoom v s) && rises v s (o .state)))
     (λ d by-6. simp (still (toldLevel v s), and-false, zero-div))
@@ -215,7 +215,7 @@ wakes-in-any-words c e s v =
 
 -- "the wake set of an accepted write or input is exactly the vCPUs whose level was 0 before and is 1 after": from every controller, so after any
 -- history, and of reads and refused calls too
-pub wakes-are-rises : (c : Call) → isSetup c ≡ false → (s : List ℕ) → Controller s → (v : ℕ) → wakeBit v (called c s) ≡ bitOf (rises v s (called c s .state))
+pub wakes-are-rises : (c : Call) → isStart c ≡ false → (s : List ℕ) → Controller s → (v : ℕ) → wakeBit v (called c s) ≡ bitOf (rises v s (called c s .state))
 wakes-are-rises c e s h v =
     wakes-in-any-words c e s v ∙ ap (λ (b : Bool). bitOf (not b && rises v s (called c s .state))) (ne-eqb (called (iarRead v) s .refusal) 7 (call-ordinary s h (iarRead v) .not-7))
 

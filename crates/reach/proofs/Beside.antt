@@ -13,7 +13,7 @@ use Rattle.state.specs.Layout.{Slot, place, Exists, Room}
 use Rattle.state.specs.Lent.{validated}
 use Rattle.state.proofs.Places.{place-inside, inner-place}
 use Rattle.state.proofs.Validated.{validated-held}
-use Rattle.history.specs.History.{Call, isSetup, called}
+use Rattle.history.specs.History.{Call, isStart, called}
 use Rattle.reach.proofs.Around.{Around}
 use Rattle.reach.proofs.Calls.{call-carries}
 
@@ -58,7 +58,7 @@ own-head [] h = absurd (omega (arith, h))
 own-head (a ∷ []) h = absurd (omega (arith, h))
 own-head (a ∷ b ∷ s) h = refl
 
-pub head-stays : {shape : Shape} (c : Call) (s : List ℕ) → isSetup c ≡ false → validated s ≡ Sound shape
+pub head-stays : {shape : Shape} (c : Call) (s : List ℕ) → isStart c ≡ false → validated s ≡ Sound shape
     → (getD (called c s .state) 0 0 ≡ getD s 0 0) × (getD (called c s .state) 1 0 ≡ getD s 1 0)
 head-stays {shape} c s other valid =
     let same = ap (λ (r : List ℕ). called c r .state) (sym own) ∙ ap (λ o. o .state) (call-carries (before (getD s 0 0) (getD s 1 0) shape) s valid (ap validated own ∙ valid) c other .same) in

@@ -52,7 +52,7 @@ use Rattle.acknowledge.specs.declared.Read.{Read}
 use Rattle.wake.specs.Wake.{givesNumber}
 use Rattle.look.specs.Look.{lineLevel, interruptAt, irqLevel, interruptWord}
 use Rattle.input.specs.declared.Signal.the-variants.{Level, Edge}
-use Rattle.history.specs.History.{Call, Setup, ReadDistributor, WriteDistributor, ReadCpuInterface, WriteCpuInterface, SetLevel, Pulse, IrqLevel, InterruptWord, isSetup, called}
+use Rattle.history.specs.History.{Call, Setup, ReadDistributor, WriteDistributor, ReadCpuInterface, WriteCpuInterface, SetLevel, Pulse, IrqLevel, InterruptWord, isStart, called}
 use Rattle.reach.proofs.Registers.{register-read, register-written}
 
 module _ {shape : Shape} {wrap : List ℕ → List ℕ} (around : Around shape wrap) (s : List ℕ) (h : Sound shape s) where
@@ -160,7 +160,7 @@ module _ {shape : Shape} {wrap : List ℕ → List ℕ} (around : Around shape w
   abbrev sound : Sound shape s
   sound = validated-sound shape s valid
 
-  pub call-carries : (c : Call) → isSetup c ≡ false → Carries wrap (called c) s
+  pub call-carries : (c : Call) → isStart c ≡ false → Carries wrap (called c) s
   unfolding readV2Distributor writeV2Distributor readV2CpuInterface writeV2CpuInterface deviceInput irqLevel interruptWord
   call-carries (Setup count limit) e = absurd (true≢false e)
   call-carries (ReadDistributor v offset width) e =

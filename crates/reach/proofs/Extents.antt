@@ -24,7 +24,7 @@ use Rattle.state.proofs.Starting.{fresh-length}
 use Rattle.state.proofs.Validated.{limited-limits}
 use Rattle.answer.specs.Answer.{refused, gave}
 use Rattle.controller.specs.Start.{setupOf, setup}
-use Rattle.history.specs.History.{Call, Deed, Starts, Acts, deed, startsAnew, isSetup, called}
+use Rattle.history.specs.History.{Call, Deed, Starts, Acts, deed, startsAnew, isStart, called}
 use Rattle.history.proofs.Each.{setup-or-other, broken-call, any-words}
 use Rattle.reach.specs.Reach.{sizeOr, storedExtent, extentOf, extent}
 use Rattle.reach.proofs.Outcomes.{wrapped, Carries}
@@ -32,7 +32,7 @@ use Rattle.reach.proofs.Calls.{call-carries}
 use Rattle.reach.proofs.Beside.{behind}
 
 -- every other call has one extent
-pub other-extent : (c : Call) (s : List ℕ) → isSetup c ≡ false → extent c s ≡ storedExtent s
+pub other-extent : (c : Call) (s : List ℕ) → isStart c ≡ false → extent c s ≡ storedExtent s
 other-extent c s = go (deed c)
   where
     go : (d : Deed) → startsAnew d ≡ false → extentOf d s ≡ storedExtent s
@@ -94,7 +94,7 @@ module _ (a x : List ℕ) where
     long = simp (le-leb (size shape) (length a) h, fresh-length shape a);
   }
 
-  module _ (c : Call) (other : isSetup c ≡ false) (h : storedExtent a ≤ length a) where
+  module _ (c : Call) (other : isStart c ≡ false) (h : storedExtent a ≤ length a) where
     valid-same : validated (a ++ x) ≡ validated a
     unfolding validated
     valid-same = ap (lentAs (a ++ x)) (stored-same (omega (arith, two-words (storedShape a), h))) ∙ tested-same (storedShape a) refl h
@@ -135,7 +135,7 @@ call-long c s = setup-or-other (λ d. length (called d s .state) ≡ length s) (
         go true = fresh-length shape s
         go false = refl
 
-    other-long : (d : Call) → isSetup d ≡ false → length (called d s .state) ≡ length s
+    other-long : (d : Call) → isStart d ≡ false → length (called d s .state) ≡ length s
     other-long =
         any-words s (λ d o. length (o .state) ≡ length s) (λ d e. refl)
         (λ shape p d e. call-carries {shape = shape} {wrap = λ r. r} (record { alike = λ r h. record { agree = λ t x inner. refl }; puts = λ r h t x inner w. refl }) s p p d e .long)

@@ -15,7 +15,7 @@ use Rattle.state.specs.Lent.{shaped, limited, storedShape, HoldsState}
 use Rattle.state.proofs.Places.{size-bound}
 use Rattle.state.proofs.Tests.{left-true, right-true}
 use Rattle.state.proofs.Validated.{limited-shape, limited-limits, limits-limited}
-use Rattle.history.specs.History.{Call, Setup, Deed, Starts, Acts, deed, isSetup, called, run, handed, answers, noSetup, Accepted}
+use Rattle.history.specs.History.{Call, Setup, Deed, Starts, Acts, deed, isStart, called, run, handed, answers, noStart, Accepted}
 use Rattle.history.proofs.Always.{a-fresh-controller}
 use Rattle.history.proofs.Each.{any-words}
 use Rattle.reach.specs.Reach.{sizeOr, storedExtent, extentOf, extent, ReachAtMost, SameFront}
@@ -38,18 +38,18 @@ module _ (c : Call) (s : List ℕ) where
   never-read r same = let front = calls-never-read (extent c s) (c ∷ []) s r once same in let first = front .answers-same in (cc, front .words-same)
 
 -- calls without a setup: the stored count and limit stay, and so does what they reach
-pub stored-stays : (c : Call) (s : List ℕ) → isSetup c ≡ false → storedShape (called c s .state) ≡ storedShape s
+pub stored-stays : (c : Call) (s : List ℕ) → isStart c ≡ false → storedShape (called c s .state) ≡ storedShape s
 stored-stays c s =
     any-words s (λ d o. storedShape (o .state) ≡ storedShape s) (λ d e. refl)
     (λ shape p d e. let head = head-stays d s e p in λ i. limited (head .0 i) (head .1 i)) c
 
-no-setup-reach : (n : ℕ) (cs : List Call) → noSetup cs ≡ true → (s : List ℕ) → storedExtent s ≤ n → ReachAtMost n cs s
+no-setup-reach : (n : ℕ) (cs : List Call) → noStart cs ≡ true → (s : List ℕ) → storedExtent s ≤ n → ReachAtMost n cs s
 no-setup-reach n [] e s h = tt
 no-setup-reach n (c ∷ cs) e s h =
-    let other : isSetup c ≡ false = not-true (isSetup c) (left-true (not (isSetup c)) (noSetup cs) e) in
-    (rw (other-extent c s other) h, no-setup-reach n cs (right-true (not (isSetup c)) (noSetup cs) e) (called c s .state) (rw (stored-stays c s other) h))
+    let other : isStart c ≡ false = not-true (isStart c) (left-true (not (isStart c)) (noStart cs) e) in
+    (rw (other-extent c s other) h, no-setup-reach n cs (right-true (not (isStart c)) (noStart cs) e) (called c s .state) (rw (stored-stays c s other) h))
 
-module _ (cs : List Call) (others : noSetup cs ≡ true) (s : List ℕ) where
+module _ (cs : List Call) (others : noStart cs ≡ true) (s : List ℕ) where
   pub past-never-written : drop (storedExtent s) (run cs s) ≡ drop (storedExtent s) s
   past-never-written = calls-never-write (storedExtent s) cs s (no-setup-reach (storedExtent s) cs others s (omega arith))
 
@@ -67,7 +67,7 @@ own-size : (count limit : ℕ) (l : Limited) → limited count limit ≡ l → s
 own-size count limit Outside p = omega arith
 own-size count limit (Within shape) p = rw (limited-shape count limit shape p) (omega arith)
 
-module _ (count limit : ℕ) (words : List ℕ) (accepted : Accepted count limit words) (cs : List Call) (others : noSetup cs ≡ true) where
+module _ (count limit : ℕ) (words : List ℕ) (accepted : Accepted count limit words) (cs : List Call) (others : noStart cs ≡ true) where
   abbrev pub whole : ℕ
   whole = size (shaped count limit)
 

@@ -14,7 +14,7 @@ use Rattle.state.proofs.Tests.{left-true, right-true}
 use Rattle.controller.specs.Start.{setup}
 use Rattle.script.specs.Line.{requestOf}
 use Rattle.runner.specs.Runner.{lineAnswer, textFirst, linesPrinted, startWords}
-use Rattle.history.specs.History.{Call, Setup, Deed, Starts, Acts, deed, startsAnew, isSetup, called, run}
+use Rattle.history.specs.History.{Call, Setup, Deed, Starts, Acts, deed, startsAnew, isStart, called, run}
 use Rattle.history.proofs.Always.{a-started-controller, every-history, stored-controls}
 use Rattle.history.proofs.Each.{setup-or-other, broken-call}
 use Rattle.script_history.specs.ScriptHistory.{callOf, withCall, callsOf, byCall}
@@ -71,8 +71,8 @@ accepted-orderly : (o : Option Call) (s : List ℕ) (calls : List Call) → isAc
 unfolding run
 accepted-orderly none s calls h = absurd (false≢true h)
 accepted-orderly (some c) s calls h =
-    let accepted : called c s .refusal ≡ 0 = eqb-true (called c s .refusal) 0 (right-true (isSetup c) (eqb (called c s .refusal) 0) h) in
-    let started = a-started-controller c s (left-true (isSetup c) (eqb (called c s .refusal) 0) h) accepted in
+    let accepted : called c s .refusal ≡ 0 = eqb-true (called c s .refusal) 0 (right-true (isStart c) (eqb (called c s .refusal) 0) h) in
+    let started = a-started-controller c s (left-true (isStart c) (eqb (called c s .refusal) 0) h) accepted in
     stored-controls (run (c ∷ calls) s) (every-history calls (called c s .state) started) .lawful .orderly
 
 lines-after : (lines : List (List ℕ)) (s : List ℕ) → validated s ≡ Broken → noneAccepted lines s ≡ false → OrderlyWords (linesPrinted lines s .state)

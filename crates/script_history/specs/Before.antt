@@ -9,13 +9,13 @@ use Rattle.state.specs.Lent.{inLimits}
 use Rattle.script.specs.Line.{requestOf}
 use Rattle.script.specs.Text.{answerText, unknownText}
 use Rattle.runner.specs.Runner.{lineAnswer}
-use Rattle.history.specs.History.{Call, Deed, Starts, Acts, deed, isSetup, called}
+use Rattle.history.specs.History.{Call, Deed, Starts, Acts, deed, isStart, called}
 use Rattle.script_history.specs.ScriptHistory.{callOf}
 
 -- a call that is an accepted `n`
 abbrev pub isAccepted : Option Call → List ℕ → Bool
 isAccepted none s = false
-isAccepted (some c) s = isSetup c && eqb (called c s .refusal) 0
+isAccepted (some c) s = isStart c && eqb (called c s .refusal) 0
 
 -- lines none of which is one, each in the words that those before it left
 unfoldable pub noneAccepted : List (List ℕ) → List ℕ → Bool

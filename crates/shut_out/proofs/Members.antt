@@ -10,7 +10,7 @@ use borrow.Author.Tests.{not-true}
 use Rattle.register.specs.declared.frame.Refusal.the-variants.{BrokenState}
 use Rattle.state.proofs.Tests.{left-true, right-true}
 use Rattle.answer.specs.Answer.{Outcome, refused, gave}
-use Rattle.history.specs.History.{Call, Looks, ReadsRegister, WritesRegister, WritesPlace, Signals, Deed, Starts, Acts, deed, startsAnew, isSetup, called, noSetup, iarRead}
+use Rattle.history.specs.History.{Call, Looks, ReadsRegister, WritesRegister, WritesPlace, Signals, Deed, Starts, Acts, deed, startsAnew, isStart, called, noStart, iarRead}
 use Rattle.shut_out.specs.ShutOut.{Behaviour, KeepsPromises, behaved, wordsAfter, Frame, Access, readCall, writeCall, Refuser, ReadsNothing, IgnoresWrites, gaveNumber, OneShot}
 
 pub one-meets : KeepsPromises called
@@ -57,11 +57,11 @@ leaves-empty (Acts (WritesRegister v a value)) p = refl
 leaves-empty (Acts (WritesPlace v a width value)) p = refl
 leaves-empty (Acts (Signals v n signal)) p = refl
 
-stays-empty : (cs : List Call) → noSetup cs ≡ true → behaved once cs [] ≡ []
+stays-empty : (cs : List Call) → noStart cs ≡ true → behaved once cs [] ≡ []
 unfolding behaved
 stays-empty [] p = refl
 stays-empty (c ∷ cs) p =
-    rw (leaves-empty (deed c) (not-true (isSetup c) (left-true (not (isSetup c)) (noSetup cs) p))) (stays-empty cs (right-true (not (isSetup c)) (noSetup cs) p))
+    rw (leaves-empty (deed c) (not-true (isStart c) (left-true (not (isStart c)) (noStart cs) p))) (stays-empty cs (right-true (not (isStart c)) (noStart cs) p))
 
 emptied : (s : List ℕ) → acknowledges s .state ≡ []
 emptied [] = refl

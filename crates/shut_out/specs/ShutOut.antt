@@ -10,7 +10,7 @@ use Prim.Native.Nat.{ℕ, _^_}
 use lib.Dec.{eqb, ltb}
 use Rattle.register.specs.declared.frame.AccessWidth.{AccessWidth}
 use Rattle.answer.specs.Answer.{Outcome}
-use Rattle.history.specs.History.{Call, Setup, ReadDistributor, WriteDistributor, ReadCpuInterface, WriteCpuInterface, numbers, Looks, ReadsRegister, WritesRegister, WritesPlace, Signals, Deed, Starts, Acts, deed, isSetup, called, noSetup, iarRead}
+use Rattle.history.specs.History.{Call, Setup, ReadDistributor, WriteDistributor, ReadCpuInterface, WriteCpuInterface, numbers, Looks, ReadsRegister, WritesRegister, WritesPlace, Signals, Deed, Starts, Acts, deed, isStart, called, noStart, iarRead}
 
 -- some controller: what it does with a call and lent words
 abbrev pub Behaviour : Type 0
@@ -73,7 +73,7 @@ hostLooks (Acts (Signals v n signal)) = false
 
 -- "refuses everything": it may accept setups, and a host's looks
 abbrev pub Refuser : Behaviour → Type 0
-Refuser f = (h : History) (c : Call) → isSetup c ≡ false → hostLooks (deed c) ≡ false → f c (wordsAfter f h) .refusal ≡ 0 → ⊥
+Refuser f = (h : History) (c : Call) → isStart c ≡ false → hostLooks (deed c) ≡ false → f c (wordsAfter f h) .refusal ≡ 0 → ⊥
 
 -- "reads 1023 or 0 everywhere": one frame is enough
 abbrev pub ReadsNothing : Frame → Behaviour → Type 0
@@ -95,5 +95,5 @@ abbrev pub OneShot : Behaviour → Type 0
 OneShot f =
     (h : History) (v : ℕ) (later : List Call)
     → let first : Outcome = f (iarRead v) (wordsAfter f h) in gaveNumber first ≡ true
-    → noSetup later ≡ true
+    → noStart later ≡ true
     → gaveNumber (f (iarRead v) (behaved f later (first .state))) ≡ false

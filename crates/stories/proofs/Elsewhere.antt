@@ -31,7 +31,7 @@ use Rattle.moves.proofs.Slots.{StackOf, each-stack, Touches}
 use Rattle.moves.proofs.Sounds.{lawful-sound, chain-others}
 use Rattle.input.specs.declared.Signal.{Signal}
 use Rattle.input.specs.declared.Signal.the-variants.{Level, Edge}
-use Rattle.history.specs.History.{Call, Looks, ReadsRegister, WritesRegister, WritesPlace, Signals, Deed, Starts, Acts, deed, isSetup, called, run}
+use Rattle.history.specs.History.{Call, Looks, ReadsRegister, WritesRegister, WritesPlace, Signals, Deed, Starts, Acts, deed, isStart, called, run}
 use Rattle.history.specs.Made.{byteMove, ClassMade, PlaceMade, ReadMade, WriteMade, signalChange, DeedMade}
 use Rattle.history.specs.Touch.{belongsTo}
 use Rattle.history.proofs.Always.{every-other-call}
@@ -175,7 +175,7 @@ module _ (t n : ℕ) where
         place-away shape v (other-vcpu v (left-true (not (eqb v t)) keeps e)) a width value (right-true (not (eqb v t)) keeps e) m made
     made-away shape (Acts (Signals v k signal)) e m r made o = subst (Away t n) (sym made) (signal-away shape v k r signal (subst (λ (x : Move). Open shape x r) made o))
 
-    no-setup : (c : Call) → elsewhere t n c ≡ true → isSetup c ≡ false
+    no-setup : (c : Call) → elsewhere t n c ≡ true → isStart c ≡ false
     no-setup = is-act (isElsewhere t n) (λ count limit. refl)
 
     call-agrees : (shape : Shape) (c : Call) → elsewhere t n c ≡ true → (s : List ℕ) → Controls shape s → Agree shape (Concerns t n) (called c s .state) s

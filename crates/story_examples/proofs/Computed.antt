@@ -21,7 +21,7 @@ use Rattle.state.specs.declared.layout.InterfaceValue.the-variants.{PriorityMas
 use Rattle.state.specs.Words.{recordAt, interfaceAt}
 use Rattle.answer.specs.Answer.{Outcome, gave}
 use Rattle.lawful.specs.Lawful.{Controls}
-use Rattle.history.specs.History.{Call, Setup, called, run, noSetup}
+use Rattle.history.specs.History.{Call, Setup, called, run, noStart}
 use Rattle.history.proofs.Always.{a-fresh-controller, same-controller}
 use Rattle.corners.specs.Corners.{zeros}
 use Rattle.corners.proofs.Started.{started, setup-started, computing}
@@ -44,7 +44,7 @@ module _ (count limit : ℕ) (cs : List Call) where
     same-words = ap (λ (o : Outcome). run cs (o .state)) (sym set-up)
 
     -- a controller, by what holds of every history
-    controls : noSetup cs ≡ true → Controls (shaped count limit) begun
+    controls : noStart cs ≡ true → Controls (shaped count limit) begun
     controls others =
         same-controller (shaped count limit) cs others (started (shaped count limit) (lent count limit))
         (subst (λ (o : Outcome). Controls (shaped count limit) (o .state)) set-up

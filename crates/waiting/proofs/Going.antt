@@ -29,7 +29,7 @@ use Rattle.input.specs.declared.Signal.the-variants.{Level, Edge}
 use Rattle.input.specs.Input as input
 use Rattle.lawful.specs.Lawful.{Controls}
 use Rattle.moves.specs.Moves.{Giving}
-use Rattle.history.specs.History.{Call, Looks, ReadsRegister, WritesRegister, WritesPlace, Signals, Deed, Starts, Acts, deed, isSetup, called}
+use Rattle.history.specs.History.{Call, Looks, ReadsRegister, WritesRegister, WritesPlace, Signals, Deed, Starts, Acts, deed, isStart, called}
 use Rattle.history.proofs.Each.{some-refusal, valid, Barred, each-call}
 use Rattle.waiting.specs.Waiting.{gives, Taker, takenBy}
 use Rattle.waiting.proofs.Keeping.{handedOut, acknowledge-cases}
@@ -86,7 +86,7 @@ module _ {shape : Shape} {s : List ℕ} {taker : Taker} {Gone : List ℕ → Typ
       (λ e. absurd (g .some (let p : 1023 ≡ taker .answer = eqb-true 1023 (taker .answer) (rw is at (by-and v e .1)) in omega (arith, p))))
       (λ d o e. g .given-takes v d (by-and v e .0) o (eqb-true (handedOut shape v d s) (taker .answer) (rw is at (by-and v e .1))))
 
-  pub call-takes : (c : Call) → isSetup c ≡ false → Takes (deed c) (called c s)
+  pub call-takes : (c : Call) → isStart c ≡ false → Takes (deed c) (called c s)
   call-takes =
       each-call shape s (valid shape s h) (λ c. Takes)
       (λ c d r may bar e. absurd (refused-takes d r bar e))

@@ -33,7 +33,7 @@ use Rattle.moves.specs.Moves.{Move, Changed, Given, moved, Giving, Open, Chain}
 use Rattle.moves.proofs.Acknowledges.{each-acknowledge}
 use Rattle.moves.proofs.Controllers.{chain-keeps}
 use Rattle.moves.proofs.Sounds.{lawful-sound}
-use Rattle.history.specs.History.{Call, ReadsRegister, Signals, Deed, Acts, deed, isSetup, called, run}
+use Rattle.history.specs.History.{Call, ReadsRegister, Signals, Deed, Acts, deed, isStart, called, run}
 use Rattle.history.specs.Made.{PlaceMade, WriteMade, signalChange}
 use Rattle.history.proofs.Always.{each-start, every-other-call}
 use Rattle.history.proofs.Calls.{write-chain}
@@ -77,7 +77,7 @@ taking taker s c o = takenBy (taker s) (deed c) o
 -- a history that never takes it ends in a controller of the same count and limit
 module _ (taker : List ℕ → Taker) where
   -- a start that does not take it is refused, and changes nothing
-  refused-start : (P : List ℕ → Type 0) (s : List ℕ) → P s → (c : Call) → isSetup c ≡ true → taking taker s c (called c s) ≡ false → P (called c s .state)
+  refused-start : (P : List ℕ → Type 0) (s : List ℕ) → P s → (c : Call) → isStart c ≡ true → taking taker s c (called c s) ≡ false → P (called c s .state)
   refused-start P s p = each-start s (λ c d o. takenBy (taker s) d o ≡ false → P (o .state)) (λ c d r may e. p) (λ c count limit after controls e. absurd (true≢false e))
 
   pub call-controls : {shape : Shape} (c : Call) (s : List ℕ) → Controls shape s → taking taker s c (called c s) ≡ false → Controls shape (called c s .state)
@@ -123,7 +123,7 @@ module _ {shape : Shape} {holds : List ℕ → Bool} {taker : List ℕ → Taker
     signals v n there past (Level asserted) e = w .kept (Changed v n (moves.SetLevel asserted)) s h (record { there = there; fits = past }) (w .signalled s v n (Level asserted) e) now
     signals v n there past Edge e = w .kept (Changed v n moves.Pulse) s h (record { there = there; fits = past }) (w .signalled s v n Edge e) now
 
-    other-stays : (c : Call) → isSetup c ≡ false → Keeps (deed c) (called c s)
+    other-stays : (c : Call) → isStart c ≡ false → Keeps (deed c) (called c s)
     other-stays =
         each-call shape s (valid shape s h) (λ c. Keeps) (λ c d r may bar e. now) (λ c by x e. now) (λ c v register x no e. now) (λ c v register is looked full. acknowledges v register is looked)
         (λ c v register value looked e. chained (w .ended v) (write-chain shape s (valid shape s h) v value register looked))

@@ -38,7 +38,7 @@ use Rattle.moves.proofs.Sounds.{lawful-sound}
 use Rattle.input.specs.declared.Signal.{Signal}
 use Rattle.input.specs.declared.Signal.the-variants.{Level, Edge}
 use Rattle.input.specs.Input.{signalled}
-use Rattle.history.specs.History.{Call, isSetup, called}
+use Rattle.history.specs.History.{Call, isStart, called}
 use Rattle.waiting.specs.Waiting.{pends, meets, isClass, among, clearsPendingAt, lowers, pendingTaker, takesPending}
 use Rattle.waiting.proofs.Going.{Goes, call-takes}
 use Rattle.waiting.proofs.Keeping.{is-class, among-is, handedOut}
@@ -146,5 +146,5 @@ module _ (shape : Shape) (v n : ℕ) (there : RecordThere shape v n) (past : 16 
           for-all u (changed shape u m (signalled signal) s) by (rw (here .0) (signal-takes shape n past s h u (met-there v n u by there) signal (here .1)));
     }
 
-  pub pending-goes : (c : Call) (s : List ℕ) → Controls shape s → isSetup c ≡ false → takesPending shape v n s c (called c s) ≡ true → pends shape v n (called c s .state) ≡ false
+  pub pending-goes : (c : Call) (s : List ℕ) → Controls shape s → isStart c ≡ false → takesPending shape v n s c (called c s) ≡ true → pends shape v n (called c s .state) ≡ false
   pending-goes c s h = call-takes (pending-going s h) h c

@@ -32,7 +32,7 @@ use Rattle.lawful.specs.Lawful.{Controls}
 use Rattle.moves.specs.Moves.{Giving}
 use Rattle.moves.proofs.Slots.{givable}
 use Rattle.moves.proofs.Sounds.{lawful-sound}
-use Rattle.history.specs.History.{Call, isSetup, called}
+use Rattle.history.specs.History.{Call, isStart, called}
 use Rattle.waiting.specs.Waiting.{bit, rung, isClass, among, clearsSourceAt, ringTaker, takesRing}
 use Rattle.waiting.proofs.BitLaws.{bit-gone, bit-of-power}
 use Rattle.waiting.proofs.Going.{Goes, call-takes}
@@ -91,5 +91,5 @@ module _ (shape : Shape) (t n u : ℕ) (exists : t < shape .count) (sgi : n < 16
       signal-takes = λ v m signal by takes. absurd (false≢true takes);
     }
 
-  pub ring-goes : (c : Call) (s : List ℕ) → Controls shape s → isSetup c ≡ false → takesRing t n u c (called c s) ≡ true → rung shape t n u (called c s .state) ≡ false
+  pub ring-goes : (c : Call) (s : List ℕ) → Controls shape s → isStart c ≡ false → takesRing t n u c (called c s) ≡ true → rung shape t n u (called c s .state) ≡ false
   ring-goes c s h = call-takes (ring-going s h) h c
