@@ -1,7 +1,7 @@
 -- Demand 3: "Take a fresh controller and any sequence of calls, refused ones included, each acting as demand 2 defines it", by request One
 -- "from a fresh or loaded controller". What is here is about the words that the calls leave, for every count and limit that setup accepts and
 -- every image that a load accepts, whatever the lent words held before. Assumes nothing.
-use mathlib.Core.Path.{_≡_, refl, sym, subst, _∙_}
+use mathlib.Core.Path.{_≡_, refl, sym, ap, subst, _∙_}
 use mathlib.Core.Bool.{Bool, true, false, not, cond, true≢false}
 use mathlib.Core.List.{List, [], _∷_}
 use mathlib.Core.Logic.{_⊎_, inl, inr}
@@ -38,7 +38,7 @@ use Rattle.moving.proofs.Loads.{load-cases}
 use Rattle.moves.proofs.Acknowledges.{each-acknowledge}
 use Rattle.moves.proofs.Controllers.{chain-controls}
 use Rattle.moves.proofs.Sounds.{lawful-sound}
-use Rattle.history.specs.History.{Call, Setup, Save, Load, Deed, Starts, deed, isStart, called, run, answers, noStart, Accepted, Started, Ordinary, Each}
+use Rattle.history.specs.History.{Call, Setup, Save, Load, Deed, Starts, deed, startsAnew, isStart, called, run, answers, noStart, Accepted, Started, Ordinary, Each}
 use Rattle.history.proofs.Calls.{call-chain}
 use Rattle.history.proofs.Each.{few, many, Refusable, some-refusal, start-or-act, into-cases, setup-load-or-other, valid, each-call}
 
@@ -82,18 +82,22 @@ each-start s P refuses starts =
     (λ after controls long. starts c (imageShape bytes .count) (imageShape bytes .limit) after controls))
     (λ c other e. absurd (true≢false (sym e ∙ other)))
 
--- "a fresh controller": what an accepted setup leaves, whatever the words held
+-- what a start leaves if it is accepted, whatever the words held: a controller of its count and limit
+pub started-controls : (shape : Shape) (c : Call) → deed c ≡ Starts (shape .count) (shape .limit) → (s : List ℕ) → called c s .refusal ≡ 0 → Controls shape (called c s .state)
+started-controls shape c is s =
+    each-start s (λ d k o. k ≡ Starts (shape .count) (shape .limit) → o .refusal ≡ 0 → Controls shape (o .state)) (λ d k r may p e. absurd (some-refusal r e))
+    (λ d count limit after controls p e. let a : count ≡ shape .count = cc in let b : limit ≡ shape .limit = cc in rw (a, b) at controls)
+    c (ap startsAnew is) is
+
+-- "a fresh controller"
 pub a-fresh-controller : (count limit : ℕ) (s : List ℕ) → Accepted count limit s → Controls (shaped count limit) (called (Setup count limit) s .state)
-a-fresh-controller count limit s =
-    setup-cases count limit s (λ o. o .refusal ≡ 0 → Controls (shaped count limit) (o .state)) (λ r may e. absurd (some-refusal r e)) (λ controls e. controls)
+a-fresh-controller count limit s = started-controls (shaped count limit) (Setup count limit) refl s
 
--- a loaded one: what an accepted load leaves, of the count and limit that its image states
+-- and a loaded one, of the count and limit that its image states
 pub a-loaded-controller : (bytes s : List ℕ) → called (Load bytes) s .refusal ≡ 0 → Controls (imageShape bytes) (called (Load bytes) s .state)
-a-loaded-controller bytes s =
-    load-cases bytes s (λ o. o .refusal ≡ 0 → Controls (imageShape bytes) (o .state))
-    (λ e. absurd (some-refusal refusal.Unlawful e)) (λ e. absurd (some-refusal refusal.ShortState e)) (λ after controls long e. controls)
+a-loaded-controller bytes s = started-controls (imageShape bytes) (Load bytes) refl s
 
--- and every call that starts one, if it is accepted
+-- so after every accepted start there is one
 pub a-started-controller : (c : Call) (s : List ℕ) → Started c s → Controller (called c s .state)
 a-started-controller c s h =
     each-start s (λ d k o. o .refusal ≡ 0 → Controller (o .state)) (λ d k r may e. absurd (some-refusal r e)) (λ d count limit after controls e. record { shape = shaped count limit; controls = controls })

@@ -1,5 +1,5 @@
 -- Two changes of lent words that no slot sees but the count's and the limit's: words put behind the state, and another count and limit. So no
--- call but a setup changes the count or the limit. Assumes nothing.
+-- call but a setup or a load changes the count or the limit. Assumes nothing.
 use mathlib.Core.Path.{_≡_, refl, sym, ap, _∙_}
 use mathlib.Core.Bool.{false}
 use mathlib.Core.List.{List, [], _∷_, _++_}

@@ -1,11 +1,12 @@
 -- Every call on a state goes through a change of lent words that the slots do not see: it hands out the same, and leaves the changed words as it
 -- would have left the others, changed. Assumes nothing.
-use mathlib.Core.Path.{_≡_, refl, ap}
+use mathlib.Core.Path.{_≡_, refl, sym, ap, _∙_}
 use mathlib.Core.Bool.{true, Bool, cond, true≢false, false}
-use mathlib.Core.List.{List}
+use mathlib.Core.List.{List, _++_}
 use Prim.Native.Nat.{ℕ, _%_, _^_}
 use native.Mathlib.Omega.{arith}
-use lib.Dec.{ltb}
+use lib.Dec.{leb, ltb}
+use lib.ListN.{length, drop}
 use borrow.Author.Tests.{ltb-true, lt-ltb}
 use Rattle.register.specs.declared.frame.AccessWidth.{AccessWidth}
 use Rattle.register.specs.declared.frame.Refusal.the-variants as refusal
@@ -34,16 +35,18 @@ use Rattle.input.specs.declared.InputNumber.the-variants.{Device, Outside}
 use Rattle.input.specs.Input.{signalled, inputOf, inputAt, deviceInput}
 use Rattle.input.proofs.Passed.{input-there, changed-sound}
 use Rattle.reach.proofs.Readings.{record-alike, control-alike, enabled-alike, bits-alike, bytes-alike, acknowledge-alike}
+use Rattle.reach.proofs.Images.{lawful-alike, image-alike}
 use Rattle.reach.proofs.Around.{Around, Passes, none-passes, if-through, put-through, changed-through}
 use Rattle.reach.proofs.Distributor.{bits-through, bytes-through, sgir-through}
-use Rattle.reach.proofs.Outcomes.{Carries, refused-carries, gave-carries, looked-carries, went-carries, with-carries}
+use Rattle.reach.proofs.Outcomes.{wrapped, Carries, refused-carries, gave-carries, looked-carries, went-carries, with-carries}
 use Rattle.register.specs.declared.«cpu_interface».CpuInterfaceAccess.{CpuInterfaceAccess}
 use Rattle.register.specs.declared.«cpu_interface».CpuInterfaceAccess.the-variants as interface
 use Rattle.register.specs.CpuInterface.{locateCpuInterface}
 use Rattle.state.specs.Lent.{validated}
+use Rattle.state.specs.declared.lent.Lent.{Lent}
 use Rattle.state.specs.declared.lent.Lent.the-variants as lent
 use Rattle.service.proofs.Soundness.{validated-sound}
-use Rattle.answer.specs.Answer.{Outcome, gave, onState, absent, lookedUp}
+use Rattle.answer.specs.Answer.{Outcome, refused, gave, onState, absent, lookedUp}
 use Rattle.answer.proofs.Present.{present}
 use Rattle.cpu_interface.specs.CpuInterface.{readRegister, afterRead, writeRegister, writeRetired, readRegisterLooksUp, writeRegisterLooksUp}
 use Rattle.cpu_interface_frame.specs.CpuInterfaceFrame.{readAnswer, readInterfaceAccess, writeInterfaceAccess, readV2CpuInterface, writeV2CpuInterface}
@@ -52,7 +55,10 @@ use Rattle.acknowledge.specs.declared.Read.{Read}
 use Rattle.wake.specs.Wake.{givesNumber}
 use Rattle.look.specs.Look.{lineLevel, interruptAt, irqLevel, interruptWord}
 use Rattle.input.specs.declared.Signal.the-variants.{Level, Edge}
-use Rattle.history.specs.History.{Call, Setup, ReadDistributor, WriteDistributor, ReadCpuInterface, WriteCpuInterface, SetLevel, Pulse, IrqLevel, InterruptWord, isStart, called}
+use Rattle.lawful_test.specs.LawfulTest.{isLawful}
+use Rattle.image.specs.Image.{image}
+use Rattle.save.specs.Save.{Saved, intoBuffer, savedFrom, save}
+use Rattle.history.specs.History.{Call, Setup, ReadDistributor, WriteDistributor, ReadCpuInterface, WriteCpuInterface, SetLevel, Pulse, IrqLevel, InterruptWord, Save, Load, isStart, called}
 use Rattle.reach.proofs.Registers.{register-read, register-written}
 
 module _ {shape : Shape} {wrap : List ℕ → List ℕ} (around : Around shape wrap) (s : List ℕ) (h : Sound shape s) where
@@ -152,6 +158,27 @@ module _ {shape : Shape} {wrap : List ℕ → List ℕ} (around : Around shape w
       go true e = looked-carries s shape v (ltb n 32) (λ q. gave-carries s (λ r. wordOf (recordAt shape v n r)) (ap wordOf (record-alike same v n (there e q))))
       go false e = gave-carries s (λ r. 0) refl
 
+  -- a host's save
+  module _ (buffer : List ℕ) where
+    abbrev tested : List ℕ → Bool → List ℕ → Outcome
+    tested written b r = cond {A = Saved} b (intoBuffer written r buffer) (record { outcome = refused refusal.Unlawful r; buffer = buffer }) .outcome
+
+    into-carries : (written : List ℕ) → Carries wrap (λ r. intoBuffer written r buffer .outcome) s
+    into-carries written = go (leb (length written) (length buffer))
+      where
+        go : (b : Bool) → Carries wrap (λ r. cond {A = Saved} b (record { outcome = gave (length written) r; buffer = written ++ drop (length written) buffer }) (record { outcome = refused refusal.NoRoom r; buffer = buffer }) .outcome) s
+        go true = gave-carries s (λ r. length written) refl
+        go false = refused-carries s refusal.NoRoom
+
+    tested-carries : (written : List ℕ) (b : Bool) → Carries wrap (tested written b) s
+    tested-carries written true = into-carries written
+    tested-carries written false = refused-carries s refusal.Unlawful
+
+    save-carries : Carries wrap (λ r. savedFrom (lent.Sound shape) r buffer .outcome) s
+    save-carries =
+        with-carries s (image shape) (λ written r. tested written (isLawful shape r) r) (image-alike same h)
+        (with-carries s (isLawful shape) (tested (image shape s)) (lawful-alike same h) (tested-carries (image shape s) (isLawful shape s)))
+
 -- words that pass the test of refusal 6 before the change and after it
 module _ {shape : Shape} {wrap : List ℕ → List ℕ} (around : Around shape wrap) (s : List ℕ) (valid : validated s ≡ lent.Sound shape) (too : validated (wrap s) ≡ lent.Sound shape) where
   on-state : (f : Shape → List ℕ → Outcome) → Carries wrap (f shape) s → Carries wrap (λ r. onState (validated r) r (λ k. f k r)) s
@@ -161,7 +188,7 @@ module _ {shape : Shape} {wrap : List ℕ → List ℕ} (around : Around shape w
   sound = validated-sound shape s valid
 
   pub call-carries : (c : Call) → isStart c ≡ false → Carries wrap (called c) s
-  unfolding readV2Distributor writeV2Distributor readV2CpuInterface writeV2CpuInterface deviceInput irqLevel interruptWord
+  unfolding readV2Distributor writeV2Distributor readV2CpuInterface writeV2CpuInterface deviceInput irqLevel interruptWord save
   call-carries (Setup count limit) e = absurd (true≢false e)
   call-carries (ReadDistributor v offset width) e =
       on-state (λ k. readDistributorAccess k v (locateDistributor offset width) width) (distributor-read around s sound v offset width (locateDistributor offset width) refl)
@@ -175,3 +202,10 @@ module _ {shape : Shape} {wrap : List ℕ → List ℕ} (around : Around shape w
   call-carries (Pulse v n) e = on-state (λ k. inputAt k v Edge (inputOf k n)) (input around s sound v n Edge (inputOf shape n) refl)
   call-carries (IrqLevel v) e = on-state (λ k r. lookedUp true k v r (gave (bitOf (lineLevel k v r)) r)) (level-look around s sound v)
   call-carries (InterruptWord v n) e = on-state (λ k. interruptAt k v n) (interrupt-look around s sound v n)
+  call-carries (Save buffer) e =
+      let p = save-carries around s sound buffer in
+      record {
+        same = ap (λ (l : Lent). savedFrom l (wrap s) buffer .outcome) too ∙ p .same ∙ ap (λ (l : Lent). wrapped wrap (savedFrom l s buffer .outcome)) (sym valid);
+        long = ap (λ (l : Lent). length (savedFrom l s buffer .outcome .state)) valid ∙ p .long;
+      }
+  call-carries (Load b) e = absurd (true≢false e)

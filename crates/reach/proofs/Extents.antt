@@ -19,14 +19,17 @@ use Rattle.state.specs.Fresh.{startedAt, fresh}
 use Rattle.state.specs.Words.{startOf}
 use Rattle.state.specs.Layout.{Interface, size, slotAt, Room, stackCapacity}
 use Rattle.state.specs.Lent.{limited, storedShape, depthFits, lentAs, validated}
-use Rattle.state.specs.Loop.{upTo, everyBelow}
+use Rattle.state.specs.Loop.{upTo}
 use Rattle.state.proofs.Starting.{fresh-length}
 use Rattle.state.proofs.Validated.{limited-limits}
 use Rattle.answer.specs.Answer.{refused, gave}
 use Rattle.controller.specs.Start.{setupOf, setup}
-use Rattle.history.specs.History.{Call, Deed, Starts, Acts, deed, startsAnew, isStart, called}
-use Rattle.history.proofs.Each.{setup-or-other, broken-call, any-words}
+use Rattle.load.specs.Load.{imageShape}
+use Rattle.moving.proofs.Loads.{load-cases, sizeIn, load-beside}
+use Rattle.history.specs.History.{Call, Load, Deed, Starts, Acts, deed, startsAnew, isStart, called}
+use Rattle.history.proofs.Each.{setup-load-or-other, broken-call, any-words}
 use Rattle.reach.specs.Reach.{sizeOr, storedExtent, extentOf, extent}
+use Rattle.reach.proofs.Images.{every-same}
 use Rattle.reach.proofs.Outcomes.{wrapped, Carries}
 use Rattle.reach.proofs.Calls.{call-carries}
 use Rattle.reach.proofs.Beside.{behind}
@@ -43,10 +46,12 @@ two-words : (l : Limited) → 2 ≤ sizeOr 2 l
 two-words Outside = omega arith
 two-words (Within shape) = omega arith
 
-every-same : (f g : ℕ → Bool) (n : ℕ) → ((i : ℕ) → i < n → f i ≡ g i) → everyBelow f n ≡ everyBelow g n
-unfolding everyBelow
-every-same f g zero same = refl
-every-same f g (suc n) same = λ i. every-same f g n (λ k h. same k (omega arith)) i && same n (omega arith) i
+size-in : (l : Limited) → sizeIn l ≡ sizeOr 0 l
+size-in Outside = refl
+size-in (Within shape) = refl
+
+load-long : (bytes s : List ℕ) → length (called (Load bytes) s .state) ≡ length s
+load-long bytes s = load-cases bytes s (λ o. length (o .state) ≡ length s) refl refl (λ after controls long. long)
 
 module _ (a x : List ℕ) where
   longer : {n : ℕ} → n ≤ length a → n ≤ length (a ++ x)
@@ -94,6 +99,10 @@ module _ (a x : List ℕ) where
     long = simp (le-leb (size shape) (length a) h, fresh-length shape a);
   }
 
+  -- a load
+  load-carries : (bytes : List ℕ) → extent (Load bytes) a ≤ length a → Carries (λ s. s ++ x) (called (Load bytes)) a
+  load-carries bytes h = record { same = load-beside bytes a x (rw (size-in (limited (imageShape bytes .count) (imageShape bytes .limit))) h); long = load-long bytes a }
+
   module _ (c : Call) (other : isStart c ≡ false) (h : storedExtent a ≤ length a) where
     valid-same : validated (a ++ x) ≡ validated a
     unfolding validated
@@ -111,7 +120,7 @@ module _ (a x : List ℕ) where
   pub within-extent : (c : Call) → extent c a ≤ length a → Carries (λ s. s ++ x) (called c) a
   unfolding setup
   within-extent =
-      setup-or-other (λ d. extent d a ≤ length a → Carries (λ s. s ++ x) (called d) a) (λ count limit. setup-carries (limited count limit))
+      setup-load-or-other (λ d. extent d a ≤ length a → Carries (λ s. s ++ x) (called d) a) (λ count limit. setup-carries (limited count limit)) load-carries
       (λ d other h. other-carries d other (rw (other-extent d a other) at h))
 
   -- and the extent is the same
@@ -125,7 +134,8 @@ module _ (a x : List ℕ) where
 -- a call leaves as many words as there were
 pub call-long : (c : Call) (s : List ℕ) → length (called c s .state) ≡ length s
 unfolding setup
-call-long c s = setup-or-other (λ d. length (called d s .state) ≡ length s) (λ count limit. setup-long (limited count limit)) other-long c
+call-long c s =
+    setup-load-or-other (λ d. length (called d s .state) ≡ length s) (λ count limit. setup-long (limited count limit)) (λ bytes. load-long bytes s) other-long c
   where
     setup-long : (l : Limited) → length (setupOf l s .state) ≡ length s
     setup-long Outside = refl

@@ -1,5 +1,6 @@
 -- What a call does with words past its extent: nothing.
 pub mod Readings
+pub mod Images
 pub mod Around
 pub mod Distributor
 pub mod Interface

@@ -1,5 +1,5 @@
--- Document 01: "Bytes past it never change"; nor are they ever read. Of one call on any words; of calls without a setup on any words; of an
--- accepted setup and such calls after it; of any history at all. Assumes nothing.
+-- Document 01: "Bytes past it never change"; nor are they ever read. Of one call on any words; of calls without a setup or load on any words; of
+-- an accepted setup or load and such calls after it; of any history at all. Assumes nothing.
 use mathlib.Core.Path.{_≡_, refl, sym, ap, _∙_}
 use mathlib.Core.Bool.{true, false, not}
 use mathlib.Core.List.{List, [], _∷_}
@@ -15,8 +15,8 @@ use Rattle.state.specs.Lent.{shaped, limited, storedShape, HoldsState}
 use Rattle.state.proofs.Places.{size-bound}
 use Rattle.state.proofs.Tests.{left-true, right-true}
 use Rattle.state.proofs.Validated.{limited-shape, limited-limits, limits-limited}
-use Rattle.history.specs.History.{Call, Setup, Deed, Starts, Acts, deed, isStart, called, run, handed, answers, noStart, Accepted}
-use Rattle.history.proofs.Always.{a-fresh-controller}
+use Rattle.history.specs.History.{Call, Deed, Starts, Acts, deed, isStart, called, run, handed, answers, noStart}
+use Rattle.history.proofs.Always.{started-controls}
 use Rattle.history.proofs.Each.{any-words}
 use Rattle.reach.specs.Reach.{sizeOr, storedExtent, extentOf, extent, ReachAtMost, SameFront}
 use Rattle.reach.proofs.Beside.{head-stays}
@@ -37,26 +37,26 @@ module _ (c : Call) (s : List ℕ) where
   unfolding run answers
   never-read r same = let front = calls-never-read (extent c s) (c ∷ []) s r once same in let first = front .answers-same in (cc, front .words-same)
 
--- calls without a setup: the stored count and limit stay, and so does what they reach
+-- calls without a setup or load: the stored count and limit stay, and so does what they reach
 pub stored-stays : (c : Call) (s : List ℕ) → isStart c ≡ false → storedShape (called c s .state) ≡ storedShape s
 stored-stays c s =
     any-words s (λ d o. storedShape (o .state) ≡ storedShape s) (λ d e. refl)
     (λ shape p d e. let head = head-stays d s e p in λ i. limited (head .0 i) (head .1 i)) c
 
-no-setup-reach : (n : ℕ) (cs : List Call) → noStart cs ≡ true → (s : List ℕ) → storedExtent s ≤ n → ReachAtMost n cs s
-no-setup-reach n [] e s h = tt
-no-setup-reach n (c ∷ cs) e s h =
+no-start-reach : (n : ℕ) (cs : List Call) → noStart cs ≡ true → (s : List ℕ) → storedExtent s ≤ n → ReachAtMost n cs s
+no-start-reach n [] e s h = tt
+no-start-reach n (c ∷ cs) e s h =
     let other : isStart c ≡ false = not-true (isStart c) (left-true (not (isStart c)) (noStart cs) e) in
-    (rw (other-extent c s other) h, no-setup-reach n cs (right-true (not (isStart c)) (noStart cs) e) (called c s .state) (rw (stored-stays c s other) h))
+    (rw (other-extent c s other) h, no-start-reach n cs (right-true (not (isStart c)) (noStart cs) e) (called c s .state) (rw (stored-stays c s other) h))
 
 module _ (cs : List Call) (others : noStart cs ≡ true) (s : List ℕ) where
   pub past-never-written : drop (storedExtent s) (run cs s) ≡ drop (storedExtent s) s
-  past-never-written = calls-never-write (storedExtent s) cs s (no-setup-reach (storedExtent s) cs others s (omega arith))
+  past-never-written = calls-never-write (storedExtent s) cs s (no-start-reach (storedExtent s) cs others s (omega arith))
 
   pub past-never-read : (r : List ℕ) → take (storedExtent s) s ≡ take (storedExtent s) r → SameFront (storedExtent s) cs s r
-  past-never-read r = calls-never-read (storedExtent s) cs s r (no-setup-reach (storedExtent s) cs others s (omega arith))
+  past-never-read r = calls-never-read (storedExtent s) cs s r (no-start-reach (storedExtent s) cs others s (omega arith))
 
--- a setup that is accepted, and such calls after it
+-- a setup or load that is accepted, and such calls after it
 held-stored : (shape : Shape) (s : List ℕ) → HoldsState shape s → storedShape s ≡ Within shape
 held-stored shape s h =
     let c : getD s 0 0 ≡ shape .count = ap (λ (t : Shape). t .count) (sym (h .stored)) in
@@ -67,20 +67,17 @@ own-size : (count limit : ℕ) (l : Limited) → limited count limit ≡ l → s
 own-size count limit Outside p = omega arith
 own-size count limit (Within shape) p = rw (limited-shape count limit shape p) (omega arith)
 
-module _ (count limit : ℕ) (words : List ℕ) (accepted : Accepted count limit words) (cs : List Call) (others : noStart cs ≡ true) where
-  abbrev pub whole : ℕ
-  whole = size (shaped count limit)
+module _ (shape : Shape) (first : Call) (starts : deed first ≡ Starts (shape .count) (shape .limit)) (words : List ℕ) (accepted : called first words .refusal ≡ 0) (cs : List Call) (others : noStart cs ≡ true) where
+  start-reach : ReachAtMost (size shape) (first ∷ cs) words
+  start-reach =
+      let after = held-stored shape (called first words .state) (started-controls shape first starts words accepted .lawful .in-range) in
+      (rw starts (own-size (shape .count) (shape .limit) (limited (shape .count) (shape .limit)) refl), no-start-reach (size shape) cs others (called first words .state) (rw after (omega arith)))
 
-  setup-reach : ReachAtMost whole (Setup count limit ∷ cs) words
-  setup-reach =
-      let after = held-stored (shaped count limit) (called (Setup count limit) words .state) (a-fresh-controller count limit words accepted .lawful .in-range) in
-      (own-size count limit (limited count limit) refl, no-setup-reach whole cs others (called (Setup count limit) words .state) (rw after (omega arith)))
+  pub words-past-stay : drop (size shape) (run (first ∷ cs) words) ≡ drop (size shape) words
+  words-past-stay = calls-never-write (size shape) (first ∷ cs) words start-reach
 
-  pub words-past-stay : drop whole (run (Setup count limit ∷ cs) words) ≡ drop whole words
-  words-past-stay = calls-never-write whole (Setup count limit ∷ cs) words setup-reach
-
-  pub words-past-unread : (r : List ℕ) → take whole words ≡ take whole r → SameFront whole (Setup count limit ∷ cs) words r
-  words-past-unread r = calls-never-read whole (Setup count limit ∷ cs) words r setup-reach
+  pub words-past-unread : (r : List ℕ) → take (size shape) words ≡ take (size shape) r → SameFront (size shape) (first ∷ cs) words r
+  words-past-unread r = calls-never-read (size shape) (first ∷ cs) words r start-reach
 
 -- no call reaches past the largest state
 largest : (other : ℕ) → other ≤ largestSize → (count limit : ℕ) (l : Limited) → limited count limit ≡ l → sizeOr other l ≤ largestSize
@@ -98,7 +95,7 @@ pub largest-reach : (cs : List Call) (s : List ℕ) → ReachAtMost largestSize 
 largest-reach [] s = tt
 largest-reach (c ∷ cs) s = (extent-bound c s, largest-reach cs (called c s .state))
 
--- so of any history at all, setups in it or not
+-- so of any history at all, setups and loads in it or not
 pub largest-unwritten : (cs : List Call) (s : List ℕ) → drop largestSize (run cs s) ≡ drop largestSize s
 largest-unwritten cs s = calls-never-write largestSize cs s (largest-reach cs s)
 

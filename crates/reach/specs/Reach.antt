@@ -19,7 +19,7 @@ sizeOr other (Within shape) = size shape
 abbrev pub storedExtent : List ℕ → ℕ
 storedExtent s = sizeOr 2 (storedShape s)
 
--- a setup has to do with the state that it is to start, and every other call with the state that is lent
+-- a setup or load has to do with the state that it is to start, and every other call with the state that is lent
 abbrev pub extentOf : Deed → List ℕ → ℕ
 extentOf (Starts count limit) s = sizeOr 0 (limited count limit)
 extentOf (Acts a) s = storedExtent s
