@@ -82,6 +82,10 @@ each-start s P refuses starts =
     (λ after controls long. starts c (imageShape bytes .count) (imageShape bytes .limit) after controls))
     (λ c other e. absurd (true≢false (sym e ∙ other)))
 
+-- "loading answers 0, wakes nobody", and so does setup; refused ones too
+pub a-start-wakes-nobody : (c : Call) (s : List ℕ) → isStart c ≡ true → (called c s .value ≡ 0) × (called c s .wake ≡ 0)
+a-start-wakes-nobody c s = each-start s (λ d k o. (o .value ≡ 0) × (o .wake ≡ 0)) (λ d k r may. (refl, refl)) (λ d count limit after controls. (refl, refl)) c
+
 -- what a start leaves if it is accepted, whatever the words held: a controller of its count and limit
 pub started-controls : (shape : Shape) (c : Call) → deed c ≡ Starts (shape .count) (shape .limit) → (s : List ℕ) → called c s .refusal ≡ 0 → Controls shape (called c s .state)
 started-controls shape c is s =

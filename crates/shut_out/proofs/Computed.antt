@@ -13,7 +13,7 @@ use Rattle.answer.specs.Answer.{Outcome, gave}
 use Rattle.history.specs.History.{Call, Setup, ReadDistributor, WriteDistributor, WriteCpuInterface, called, iarRead}
 use Rattle.corners.specs.Corners.{zeros}
 use Rattle.corners.proofs.Started.{started, setup-started, computing}
-use Rattle.shut_out.specs.ShutOut.{Behaviour, admitted, KeepsPromises, behaved, History, wordsAfter, Frame, Distributor, CpuInterface, Access, readCall, writeCall, Refuser, ReadsNothing, IgnoresWrites, gaveNumber, OneShot}
+use Rattle.shut_out.specs.ShutOut.{Behaviour, allInScope, admitted, KeepsPromises, behaved, History, wordsAfter, Frame, Distributor, CpuInterface, Access, readCall, writeCall, Refuser, ReadsNothing, IgnoresWrites, gaveNumber, OneShot}
 
 -- the calls of a row and then one more are such as the types admit
 abbrev allAdmitted : List Call → Call → List ℕ → Bool
@@ -32,8 +32,8 @@ promised f m (d ∷ cs) c s p =
 abbrev words : List ℕ
 words = zeros (size (shaped 1 32))
 
-abbrev history : List Call → History
-history cs = record { count = 1; limit = 32; lent = words; calls = cs }
+abbrev history : (cs : List Call) → allInScope cs ≡ true → History
+history cs p = record { count = 1; limit = 32; lent = words; calls = cs; in-scope = p }
 
 abbrev begun : List ℕ
 begun = started (shaped 1 32) words
@@ -42,41 +42,49 @@ set-up : (f : Behaviour) → KeepsPromises f → f (Setup 1 32) words ≡ gave 0
 unfolding zeros
 set-up f m = m (Setup 1 32) words refl ∙ setup-started 1 32 words refl refl
 
-from-setup : (f : Behaviour) → KeepsPromises f → (cs : List Call) (c : Call) → allAdmitted cs c begun ≡ true → f c (wordsAfter f (history cs)) ≡ called c (behaved called cs begun)
+from-setup : (f : Behaviour) → KeepsPromises f → (cs : List Call) (within : allInScope cs ≡ true) (c : Call) → allAdmitted cs c begun ≡ true
+    → f c (wordsAfter f (history cs within)) ≡ called c (behaved called cs begun)
 unfolding behaved
-from-setup f m cs c p = rw (set-up f m) (promised f m cs c begun p)
+from-setup f m cs within c p = rw (set-up f m) (promised f m cs c begun p)
 
 typer : Call
 typer = ReadDistributor 0 0x004 Dword
 
 pub no-refuser : (f : Behaviour) → KeepsPromises f → Refuser f → ⊥
 unfolding behaved typer zeros computing
-no-refuser f m k = k (history []) typer refl refl (ap (λ (o : Outcome). o .refusal) (from-setup f m [] typer refl))
+no-refuser f m k = k (history [] refl) typer refl refl (ap (λ (o : Outcome). o .refusal) (from-setup f m [] refl typer refl))
 
 -- CTLR of either frame, which keeps a 1
 control : Access
 control = record { vcpu = 0; offset = 0; width = Dword }
 
-kept : (f : Behaviour) → KeepsPromises f → (frame : Frame) → f (readCall frame control) (wordsAfter f (history (writeCall frame control 1 ∷ []))) .value ≡ 1
-unfolding behaved control zeros computing
-kept f m Distributor = ap (λ (o : Outcome). o .value) (from-setup f m (writeCall Distributor control 1 ∷ []) (readCall Distributor control) refl)
-kept f m CpuInterface = ap (λ (o : Outcome). o .value) (from-setup f m (writeCall CpuInterface control 1 ∷ []) (readCall CpuInterface control) refl)
+abbrev switch : Frame → List Call
+switch frame = writeCall frame control 1 ∷ []
 
-cleared : (f : Behaviour) → KeepsPromises f → (frame : Frame) → f (readCall frame control) (wordsAfter f (history [])) .value ≡ 0
+switch-in-scope : (frame : Frame) → allInScope (switch frame) ≡ true
+switch-in-scope Distributor = refl
+switch-in-scope CpuInterface = refl
+
+kept : (f : Behaviour) → KeepsPromises f → (frame : Frame) → f (readCall frame control) (wordsAfter f (history (switch frame) (switch-in-scope frame))) .value ≡ 1
 unfolding behaved control zeros computing
-cleared f m Distributor = ap (λ (o : Outcome). o .value) (from-setup f m [] (readCall Distributor control) refl)
-cleared f m CpuInterface = ap (λ (o : Outcome). o .value) (from-setup f m [] (readCall CpuInterface control) refl)
+kept f m Distributor = ap (λ (o : Outcome). o .value) (from-setup f m (switch Distributor) (switch-in-scope Distributor) (readCall Distributor control) refl)
+kept f m CpuInterface = ap (λ (o : Outcome). o .value) (from-setup f m (switch CpuInterface) (switch-in-scope CpuInterface) (readCall CpuInterface control) refl)
+
+cleared : (f : Behaviour) → KeepsPromises f → (frame : Frame) → f (readCall frame control) (wordsAfter f (history [] refl)) .value ≡ 0
+unfolding behaved control zeros computing
+cleared f m Distributor = ap (λ (o : Outcome). o .value) (from-setup f m [] refl (readCall Distributor control) refl)
+cleared f m CpuInterface = ap (λ (o : Outcome). o .value) (from-setup f m [] refl (readCall CpuInterface control) refl)
 
 neither : (x : ℕ) → x ≡ 1 → (x ≡ 0) ⊎ (x ≡ 1023) → ⊥
 neither x p (inl e) = omega (arith, p, e)
 neither x p (inr e) = omega (arith, p, e)
 
 pub no-constant-reader : (frame : Frame) (f : Behaviour) → KeepsPromises f → ReadsNothing frame f → ⊥
-no-constant-reader frame f m k = neither _ (kept f m frame) (k (history (writeCall frame control 1 ∷ [])) control)
+no-constant-reader frame f m k = neither _ (kept f m frame) (k (history (switch frame) (switch-in-scope frame)) control)
 
 pub no-deaf-controller : (frame : Frame) (f : Behaviour) → KeepsPromises f → IgnoresWrites frame f → ⊥
 unfolding behaved
-no-deaf-controller frame f m k = differ (sym (kept f m frame) ∙ k (history []) control control 1 ∙ cleared f m frame)
+no-deaf-controller frame f m k = differ (sym (kept f m frame) ∙ k (history [] refl) control control 1 ∙ cleared f m frame)
   where
     differ : _≡_ {A = ℕ} 1 0 → ⊥
     differ e = omega (arith, e)
@@ -113,6 +121,6 @@ second-given = refl
 pub no-one-shot : (f : Behaviour) → KeepsPromises f → OneShot f → ⊥
 unfolding behaved ring before between zeros computing
 no-one-shot f m k =
-    let e : f (iarRead 0) (wordsAfter f (history before)) ≡ first = from-setup f m before (iarRead 0) refl in
+    let e : f (iarRead 0) (wordsAfter f (history before refl)) ≡ first = from-setup f m before refl (iarRead 0) refl in
     let d : f (iarRead 0) (behaved f between (first .state)) ≡ second = promised f m between (iarRead 0) (first .state) refl in
-    true≢false (sym (ap gaveNumber d ∙ second-given) ∙ (rw e at (k (history before) 0 between (ap gaveNumber e ∙ first-given) refl)))
+    true≢false (sym (ap gaveNumber d ∙ second-given) ∙ (rw e at (k (history before refl) 0 between (ap gaveNumber e ∙ first-given) refl refl)))

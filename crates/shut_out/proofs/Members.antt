@@ -68,8 +68,8 @@ emptied [] = refl
 emptied (x ∷ s) = refl
 
 pub a-one-shot : OneShot once
-a-one-shot h v later p q = simp (emptied (wordsAfter once h), stays-empty later q)
+a-one-shot h v later p within q = simp (emptied (wordsAfter once h), stays-empty later q)
 
-pub gives-the-first : (count limit v : ℕ) (s : List ℕ) → gaveNumber (once (iarRead v) (wordsAfter once (record { count = count; limit = limit; lent = s; calls = [] }))) ≡ true
+pub gives-the-first : (count limit v : ℕ) (s : List ℕ) → gaveNumber (once (iarRead v) (wordsAfter once (record { count = count; limit = limit; lent = s; calls = []; in-scope = refl }))) ≡ true
 unfolding behaved
 gives-the-first count limit v s = refl

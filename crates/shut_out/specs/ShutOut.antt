@@ -5,12 +5,11 @@ use mathlib.Core.Path.{_≡_}
 use mathlib.Core.Bool.{Bool, true, false, not, _&&_}
 use mathlib.Core.List.{List, [], _∷_}
 use mathlib.Core.Logic.{_⊎_}
-use mathlib.Core.Option.{none, some}
 use Prim.Native.Nat.{ℕ, _^_}
 use lib.Dec.{eqb, ltb}
 use Rattle.register.specs.declared.frame.AccessWidth.{AccessWidth}
 use Rattle.answer.specs.Answer.{Outcome}
-use Rattle.history.specs.History.{Call, Setup, ReadDistributor, WriteDistributor, ReadCpuInterface, WriteCpuInterface, numbers, Looks, ReadsRegister, WritesRegister, WritesPlace, Signals, Deed, Starts, Acts, deed, isStart, called, noStart, iarRead}
+use Rattle.history.specs.History.{Call, Setup, ReadDistributor, WriteDistributor, ReadCpuInterface, WriteCpuInterface, SetLevel, Pulse, IrqLevel, InterruptWord, Save, Load, numbers, isStart, called, noStart, iarRead}
 
 -- some controller: what it does with a call and lent words
 abbrev pub Behaviour : Type 0
@@ -20,9 +19,27 @@ abbrev pub allBelow : ℕ → List ℕ → Bool
 allBelow bound [] = true
 allBelow bound (x ∷ xs) = ltb x bound && allBelow bound xs
 
+-- document 01's calls: it has no look by a host, no save and no load
+abbrev pub inScope : Call → Bool
+inScope (Setup count limit) = true
+inScope (ReadDistributor v offset width) = true
+inScope (WriteDistributor v offset width value) = true
+inScope (ReadCpuInterface v offset width) = true
+inScope (WriteCpuInterface v offset width value) = true
+inScope (SetLevel v n asserted) = true
+inScope (Pulse v n) = true
+inScope (IrqLevel v) = false
+inScope (InterruptWord v n) = false
+inScope (Save buffer) = false
+inScope (Load bytes) = false
+
+abbrev pub allInScope : List Call → Bool
+allInScope [] = true
+allInScope (c ∷ cs) = inScope c && allInScope cs
+
 -- a promise speaks of what the types of its call admit: numbers of 64 bits, words of 32
 abbrev pub admitted : Call → List ℕ → Bool
-admitted c s = allBelow (2 ^ 64) (numbers c) && allBelow (2 ^ 32) s
+admitted c s = inScope c && allBelow (2 ^ 64) (numbers c) && allBelow (2 ^ 32) s
 
 -- it keeps the promises
 abbrev pub KeepsPromises : Behaviour → Type 0
@@ -39,6 +56,7 @@ pub record History : Type 0 where
   pub limit : ℕ
   pub lent : List ℕ
   pub calls : List Call
+  pub in-scope : allInScope calls ≡ true
 
 abbrev pub wordsAfter : Behaviour → History → List ℕ
 wordsAfter f h = behaved f (Setup (h .count) (h .limit) ∷ h .calls) (h .lent)
@@ -61,19 +79,9 @@ abbrev pub writeCall : Frame → Access → ℕ → Call
 writeCall Distributor a value = WriteDistributor (a .vcpu) (a .offset) (a .width) value
 writeCall CpuInterface a value = WriteCpuInterface (a .vcpu) (a .offset) (a .width) value
 
--- a look by nobody, so by the host: document 01 has no such call
-abbrev pub hostLooks : Deed → Bool
-hostLooks (Starts count limit) = false
-hostLooks (Acts (Looks none)) = true
-hostLooks (Acts (Looks (some v))) = false
-hostLooks (Acts (ReadsRegister v a)) = false
-hostLooks (Acts (WritesRegister v a value)) = false
-hostLooks (Acts (WritesPlace v a width value)) = false
-hostLooks (Acts (Signals v n signal)) = false
-
--- "refuses everything": it may accept setups, and a host's looks
+-- "refuses everything": it may accept setups
 abbrev pub Refuser : Behaviour → Type 0
-Refuser f = (h : History) (c : Call) → isStart c ≡ false → hostLooks (deed c) ≡ false → f c (wordsAfter f h) .refusal ≡ 0 → ⊥
+Refuser f = (h : History) (c : Call) → inScope c ≡ true → isStart c ≡ false → f c (wordsAfter f h) .refusal ≡ 0 → ⊥
 
 -- "reads 1023 or 0 everywhere": one frame is enough
 abbrev pub ReadsNothing : Frame → Behaviour → Type 0
@@ -95,5 +103,6 @@ abbrev pub OneShot : Behaviour → Type 0
 OneShot f =
     (h : History) (v : ℕ) (later : List Call)
     → let first : Outcome = f (iarRead v) (wordsAfter f h) in gaveNumber first ≡ true
+    → allInScope later ≡ true
     → noStart later ≡ true
     → gaveNumber (f (iarRead v) (behaved f later (first .state))) ≡ false

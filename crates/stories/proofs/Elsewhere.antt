@@ -175,13 +175,13 @@ module _ (t n : ℕ) where
         place-away shape v (other-vcpu v (left-true (not (eqb v t)) keeps e)) a width value (right-true (not (eqb v t)) keeps e) m made
     made-away shape (Acts (Signals v k signal)) e m r made o = subst (Away t n) (sym made) (signal-away shape v k r signal (subst (λ (x : Move). Open shape x r) made o))
 
-    no-setup : (c : Call) → elsewhere t n c ≡ true → isStart c ≡ false
-    no-setup = is-act (isElsewhere t n) (λ count limit. refl)
+    no-start : (c : Call) → elsewhere t n c ≡ true → isStart c ≡ false
+    no-start = is-act (isElsewhere t n) (λ count limit. refl)
 
     call-agrees : (shape : Shape) (c : Call) → elsewhere t n c ≡ true → (s : List ℕ) → Controls shape s → Agree shape (Concerns t n) (called c s .state) s
     call-agrees shape c e s h = record {
       agree = λ x exists con.
-          chain-others x exists (λ m r made o. untouched m (made-away shape (deed c) e m r made o) x con) (call-chain shape s (valid shape s h) c (no-setup c e)) (lawful-sound (h .lawful));
+          chain-others x exists (λ m r made o. untouched m (made-away shape (deed c) e m r made o) x con) (call-chain shape s (valid shape s h) c (no-start c e)) (lawful-sound (h .lawful));
     }
 
     -- over a history: a controller still, and all as it was
@@ -190,13 +190,13 @@ module _ (t n : ℕ) where
     elsewhere-controls shape [] e s h = h
     elsewhere-controls shape (c ∷ cs) e s h =
         let here = left-true (elsewhere t n c) (allElsewhere t n cs) e in
-        elsewhere-controls shape cs (right-true (elsewhere t n c) (allElsewhere t n cs) e) (called c s .state) (every-other-call shape c (no-setup c here) s h)
+        elsewhere-controls shape cs (right-true (elsewhere t n c) (allElsewhere t n cs) e) (called c s .state) (every-other-call shape c (no-start c here) s h)
 
     pub elsewhere-agrees : (shape : Shape) (cs : List Call) → allElsewhere t n cs ≡ true → (s : List ℕ) → Controls shape s → Agree shape (Concerns t n) (run cs s) s
     unfolding run
     elsewhere-agrees shape [] e s h = record { agree = λ x exists con. refl }
     elsewhere-agrees shape (c ∷ cs) e s h =
         let here = left-true (elsewhere t n c) (allElsewhere t n cs) e in
-        let after = every-other-call shape c (no-setup c here) s h in
+        let after = every-other-call shape c (no-start c here) s h in
         let later = elsewhere-agrees shape cs (right-true (elsewhere t n c) (allElsewhere t n cs) e) (called c s .state) after in
         record { agree = λ x exists con. later .agree x exists con ∙ call-agrees shape c here s h .agree x exists con }
