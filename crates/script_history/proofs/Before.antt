@@ -12,11 +12,13 @@ use Rattle.state.specs.Layout.{size}
 use Rattle.state.specs.Lent.{inLimits, shaped, limited, validated}
 use Rattle.state.proofs.Tests.{left-true, right-true}
 use Rattle.controller.specs.Start.{setup}
+use Rattle.script.specs.declared.request.Request.{Request}
+use Rattle.script.specs.declared.request.Request.the-variants as request
 use Rattle.script.specs.Line.{requestOf}
 use Rattle.runner.specs.Runner.{lineAnswer, textFirst, linesPrinted, startWords}
 use Rattle.history.specs.History.{Call, Setup, Deed, Starts, Acts, deed, startsAnew, isStart, called, run}
 use Rattle.history.proofs.Always.{a-started-controller, every-history, stored-controls}
-use Rattle.history.proofs.Each.{setup-or-other, broken-call}
+use Rattle.history.proofs.Each.{broken-call}
 use Rattle.script_history.specs.ScriptHistory.{callOf, withCall, callsOf, byCall}
 use Rattle.script_history.specs.Before.{isAccepted, noneAccepted, refusalBefore, textBefore, textsBefore}
 use Rattle.script_history.proofs.Scripts.{a-line-is-a-call, a-script-is-a-history, OrderlyWords}
@@ -33,12 +35,22 @@ a-refused-setup count limit s refuses = go (inLimits count limit) (leb (size (sh
     go true false within short = simp (within, short)
     go false b outside room = simp outside
 
+-- what a line can ask for: nothing, a setup, or a call that starts nothing
+asks : (P : Option Call → Type 0) → P none → ((count limit : ℕ) → P (some (Setup count limit))) → ((c : Call) → isStart c ≡ false → P (some c)) → (r : Request) → P (callOf r)
+asks P nothing setup other (request.Setup n) = setup (n .count) (n .limit)
+asks P nothing setup other (request.ReadDistributor d) = other _ refl
+asks P nothing setup other (request.WriteDistributor d) = other _ refl
+asks P nothing setup other (request.ReadCpuInterface c) = other _ refl
+asks P nothing setup other (request.WriteCpuInterface c) = other _ refl
+asks P nothing setup other (request.SetLevel l) = other _ refl
+asks P nothing setup other (request.Pulse p) = other _ refl
+asks P nothing setup other request.Unknown = nothing
+
 -- in words that are no state, a line that is no accepted `n`
-call-before : (o : Option Call) (s : List ℕ) → validated s ≡ Broken → isAccepted o s ≡ false → byCall o s ≡ record { text = textBefore o; state = s }
-call-before none s e h = refl
-call-before (some c) s e h =
-    setup-or-other (λ d. isAccepted (some d) s ≡ false → byCall (some d) s ≡ record { text = textBefore (some d); state = s })
-    (λ count limit. a-refused-setup count limit s) (λ d other q. rw (broken-call d other s e .0, by-6 (deed d) other)) c h
+call-before : (r : Request) (s : List ℕ) → validated s ≡ Broken → isAccepted (callOf r) s ≡ false → byCall (callOf r) s ≡ record { text = textBefore (callOf r); state = s }
+call-before r s e =
+    asks (λ o. isAccepted o s ≡ false → byCall o s ≡ record { text = textBefore o; state = s }) (λ h. refl) (λ count limit. a-refused-setup count limit s)
+    (λ c other h. rw (broken-call c other s e .0, by-6 (deed c) other)) r
   where
     by-6 : (d : Deed) → startsAnew d ≡ false → refusalBefore d ≡ 6
     by-6 (Starts count limit) p = absurd (true≢false p)
@@ -46,7 +58,7 @@ call-before (some c) s e h =
 
 line-before : (line s : List ℕ) → validated s ≡ Broken → isAccepted (callOf (requestOf line)) s ≡ false
     → lineAnswer line s ≡ record { text = textBefore (callOf (requestOf line)); state = s }
-line-before line s e h = a-line-is-a-call line s ∙ call-before (callOf (requestOf line)) s e h
+line-before line s e h = a-line-is-a-call line s ∙ call-before (requestOf line) s e h
 
 -- so the lines after it find the words as they were
 none-before : (line : List ℕ) (lines : List (List ℕ)) (s : List ℕ) → validated s ≡ Broken → isAccepted (callOf (requestOf line)) s ≡ false
@@ -72,7 +84,7 @@ unfolding run
 accepted-orderly none s calls h = absurd (false≢true h)
 accepted-orderly (some c) s calls h =
     let accepted : called c s .refusal ≡ 0 = eqb-true (called c s .refusal) 0 (right-true (isStart c) (eqb (called c s .refusal) 0) h) in
-    let started = a-started-controller c s (left-true (isStart c) (eqb (called c s .refusal) 0) h) accepted in
+    let started = a-started-controller c s (record { starts = left-true (isStart c) (eqb (called c s .refusal) 0) h; accepted = accepted }) in
     stored-controls (run (c ∷ calls) s) (every-history calls (called c s .state) started) .lawful .orderly
 
 lines-after : (lines : List (List ℕ)) (s : List ℕ) → validated s ≡ Broken → noneAccepted lines s ≡ false → OrderlyWords (linesPrinted lines s .state)

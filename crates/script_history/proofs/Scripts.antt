@@ -13,6 +13,7 @@ use Rattle.script.specs.declared.request.Request.the-variants.{Setup, ReadDistr
 use Rattle.script.specs.Line.{requestOf}
 use Rattle.runner.specs.Runner as runner
 use Rattle.runner.specs.Runner.{lineAnswer, linesPrinted}
+use Rattle.history.specs.History as history
 use Rattle.history.specs.History.{Call, run, Accepted}
 use Rattle.history.proofs.Always.{demand-three}
 use Rattle.script_history.specs.ScriptHistory.{callOf, withCall, callsOf, byCall}
@@ -49,4 +50,4 @@ pub after-every-script : (count limit : ℕ) (words : List ℕ) → Accepted cou
     → OrderlyWords (linesPrinted lines (setup count limit words .state) .state)
 unfolding run
 after-every-script count limit words accepted lines =
-    subst OrderlyWords (sym (a-script-is-a-history lines (setup count limit words .state))) (demand-three count limit words accepted (callsOf lines))
+    subst OrderlyWords (sym (a-script-is-a-history lines (setup count limit words .state))) (demand-three (history.Setup count limit) words (record { starts = refl; accepted = accepted }) (callsOf lines))

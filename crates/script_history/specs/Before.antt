@@ -12,7 +12,7 @@ use Rattle.runner.specs.Runner.{lineAnswer}
 use Rattle.history.specs.History.{Call, Deed, Starts, Acts, deed, isStart, called}
 use Rattle.script_history.specs.ScriptHistory.{callOf}
 
--- a call that is an accepted `n`
+-- a line's call that is an accepted `n`: no line asks for a load
 abbrev pub isAccepted : Option Call → List ℕ → Bool
 isAccepted none s = false
 isAccepted (some c) s = isStart c && eqb (called c s .refusal) 0
