@@ -1,5 +1,5 @@
--- Each call's promise, as its `ensures` has it, admits one outcome: two answers and states that it allows for the same inputs are the same answer, case by case and
--- number by number, and the same words. Assumes nothing.
+-- Each call's promise, as its `ensures` has it, admits one outcome: two answers and states that it allows for the same inputs are the same answer,
+-- case by case and number by number, and the same words; a save's buffers are the same too. Assumes nothing.
 use mathlib.Core.Path.{_≡_, refl, sym, ap, _∙_}
 use mathlib.Core.Bool.{Bool, cond}
 use mathlib.Core.List.{List}
@@ -19,6 +19,8 @@ use Rattle.distributor_frame.specs.DistributorFrame.{readV2Distributor, writeV2
 use Rattle.cpu_interface_frame.specs.CpuInterfaceFrame.{readV2CpuInterface, writeV2CpuInterface, ReadCpuInterfacePromise, WriteCpuInterfacePromise}
 use Rattle.input.specs.Input.{deviceLevel, devicePulse, SetLevelPromise, PulsePromise}
 use Rattle.look.specs.Look.{irqLevel, interruptWord, IrqLevelPromise, InterruptWordPromise}
+use Rattle.save.specs.Save.{Saved, save, SavePromise}
+use Rattle.load.specs.Load.{load, LoadPromise}
 
 -- a refusal is known by its number, and no number is 0
 numbered : (r q : Refusal) → refusalNumber r ≡ refusalNumber q → r ≡ q
@@ -105,3 +107,12 @@ irq-level-one v s = one (irqLevel v s)
 
 pub interrupt-word-one : (v n : ℕ) (s : List ℕ) → AdmitsOne (InterruptWordPromise v n s)
 interrupt-word-one v n s = one (interruptWord v n s)
+
+pub load-one : (bytes s : List ℕ) → AdmitsOne (LoadPromise bytes s)
+load-one bytes s = one (load bytes s)
+
+-- a save's promise speaks of the buffer too: one answer with one list of words, and one buffer
+pub save-one : (s buffer : List ℕ) → AdmitsOne {A = Answer × List ℕ} (λ o written. SavePromise s buffer (o .0) (o .1) written)
+save-one s buffer a b written other p q =
+    let o = one (save s buffer .outcome) (a .0) (b .0) (a .1) (b .1) (ap (λ (z : Saved). z .outcome) p) (ap (λ (z : Saved). z .outcome) q) in
+    ((λ i. (o .0 i, o .1 i)), ap (λ (z : Saved). z .buffer) p ∙ sym (ap (λ (z : Saved). z .buffer) q))

@@ -38,7 +38,7 @@ use Rattle.moving.proofs.Loads.{load-cases}
 use Rattle.moves.proofs.Acknowledges.{each-acknowledge}
 use Rattle.moves.proofs.Controllers.{chain-controls}
 use Rattle.moves.proofs.Sounds.{lawful-sound}
-use Rattle.history.specs.History.{Call, Setup, Save, Load, Deed, Starts, deed, startsAnew, isStart, called, run, answers, noStart, Accepted, Started, Ordinary, Each}
+use Rattle.history.specs.History.{Call, Setup, Save, Load, Deed, Starts, deed, startsAnew, isStart, called, run, answers, noStart, Accepted, Started, Ordinary, EachAnswer}
 use Rattle.history.proofs.Calls.{call-chain}
 use Rattle.history.proofs.Each.{few, many, Refusable, some-refusal, start-or-act, into-cases, setup-load-or-other, valid, each-call}
 
@@ -193,12 +193,12 @@ module _ (first : Call) (words : List ℕ) (started : Started first words) (cs :
   never-refused-by-6 c = call-ordinary after controller c .not-6
 
 -- the same of all the answers that a history hands out
-answers-ordinary : (cs : List Call) (s : List ℕ) → Controller s → Each (λ a. Ordinary (a .refusal)) (answers cs s)
+answers-ordinary : (cs : List Call) (s : List ℕ) → Controller s → EachAnswer (λ a. Ordinary (a .refusal)) (answers cs s)
 unfolding answers
 answers-ordinary [] s h = tt
 answers-ordinary (c ∷ cs) s h = (call-ordinary s h c, answers-ordinary cs (called c s .state) (every-call c s h))
 
-pub no-answer-is-6-or-7 : (first : Call) (words : List ℕ) → Started first words → (cs : List Call) → Each (λ a. Ordinary (a .refusal)) (answers (first ∷ cs) words)
+pub no-answer-is-6-or-7 : (first : Call) (words : List ℕ) → Started first words → (cs : List Call) → EachAnswer (λ a. Ordinary (a .refusal)) (answers (first ∷ cs) words)
 unfolding answers
 no-answer-is-6-or-7 first words started cs = (few (omega (arith, started .accepted)), answers-ordinary cs (called first words .state) (a-started-controller first words started))
 

@@ -38,18 +38,18 @@ pub data Call : Type 0 where
   Load : List ℕ → Call
 
 -- its numbers, of 64 bits each
-abbrev pub numbers : Call → List ℕ
-numbers (Setup count limit) = count ∷ limit ∷ []
-numbers (ReadDistributor v offset width) = v ∷ offset ∷ []
-numbers (WriteDistributor v offset width value) = v ∷ offset ∷ value ∷ []
-numbers (ReadCpuInterface v offset width) = v ∷ offset ∷ []
-numbers (WriteCpuInterface v offset width value) = v ∷ offset ∷ value ∷ []
-numbers (SetLevel v n asserted) = v ∷ n ∷ []
-numbers (Pulse v n) = v ∷ n ∷ []
-numbers (IrqLevel v) = v ∷ []
-numbers (InterruptWord v n) = v ∷ n ∷ []
-numbers (Save buffer) = []
-numbers (Load bytes) = []
+abbrev pub callNumbers : Call → List ℕ
+callNumbers (Setup count limit) = count ∷ limit ∷ []
+callNumbers (ReadDistributor v offset width) = v ∷ offset ∷ []
+callNumbers (WriteDistributor v offset width value) = v ∷ offset ∷ value ∷ []
+callNumbers (ReadCpuInterface v offset width) = v ∷ offset ∷ []
+callNumbers (WriteCpuInterface v offset width value) = v ∷ offset ∷ value ∷ []
+callNumbers (SetLevel v n asserted) = v ∷ n ∷ []
+callNumbers (Pulse v n) = v ∷ n ∷ []
+callNumbers (IrqLevel v) = v ∷ []
+callNumbers (InterruptWord v n) = v ∷ n ∷ []
+callNumbers (Save buffer) = []
+callNumbers (Load bytes) = []
 
 -- what it does
 abbrev pub called : Call → List ℕ → Outcome
@@ -158,6 +158,6 @@ pub record Ordinary (refusal : ℕ) : Type 0 where
   pub not-7 : refusal ≡ 7 → ⊥
 
 -- of each answer
-abbrev pub Each : (Handed → Type 0) → List Handed → Type 0
-Each P [] = Unit
-Each P (a ∷ rest) = P a × Each P rest
+abbrev pub EachAnswer : (Handed → Type 0) → List Handed → Type 0
+EachAnswer P [] = Unit
+EachAnswer P (a ∷ rest) = P a × EachAnswer P rest

@@ -9,7 +9,7 @@ use Prim.Native.Nat.{ℕ, _^_}
 use lib.Dec.{eqb, ltb}
 use Rattle.register.specs.declared.frame.AccessWidth.{AccessWidth}
 use Rattle.answer.specs.Answer.{Outcome}
-use Rattle.history.specs.History.{Call, Setup, ReadDistributor, WriteDistributor, ReadCpuInterface, WriteCpuInterface, SetLevel, Pulse, IrqLevel, InterruptWord, Save, Load, numbers, isStart, called, noStart, iarRead}
+use Rattle.history.specs.History.{Call, Setup, ReadDistributor, WriteDistributor, ReadCpuInterface, WriteCpuInterface, SetLevel, Pulse, IrqLevel, InterruptWord, Save, Load, callNumbers, isStart, called, noStart, iarRead}
 
 -- some controller: what it does with a call and lent words
 abbrev pub Behaviour : Type 0
@@ -39,7 +39,7 @@ allInScope (c ∷ cs) = inScope c && allInScope cs
 
 -- a promise speaks of what the types of its call admit: numbers of 64 bits, words of 32
 abbrev pub admitted : Call → List ℕ → Bool
-admitted c s = inScope c && allBelow (2 ^ 64) (numbers c) && allBelow (2 ^ 32) s
+admitted c s = inScope c && allBelow (2 ^ 64) (callNumbers c) && allBelow (2 ^ 32) s
 
 -- it keeps the promises
 abbrev pub KeepsPromises : Behaviour → Type 0
