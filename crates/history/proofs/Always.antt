@@ -95,7 +95,8 @@ started-controls shape c is s =
 
 -- "a fresh controller"
 pub a-fresh-controller : (count limit : ℕ) (s : List ℕ) → Accepted count limit s → Controls (shaped count limit) (called (Setup count limit) s .state)
-a-fresh-controller count limit s = started-controls (shaped count limit) (Setup count limit) refl s
+a-fresh-controller count limit s =
+    setup-cases count limit s (λ o. o .refusal ≡ 0 → Controls (shaped count limit) (o .state)) (λ r may e. absurd (some-refusal r e)) (λ controls e. controls)
 
 -- and a loaded one, of the count and limit that its image states
 pub a-loaded-controller : (bytes s : List ℕ) → called (Load bytes) s .refusal ≡ 0 → Controls (imageShape bytes) (called (Load bytes) s .state)

@@ -214,7 +214,7 @@ wakes-in-any-words c e s v =
     c e
 
 -- "the wake set of an accepted write or input is exactly the vCPUs whose level was 0 before and is 1 after": from every controller, so after any
--- history, and of reads and refused calls too
+-- history, and of reads and refused calls too. A setup or load wakes nobody (`a-start-wakes-nobody`), and after a load a line may be up
 pub wakes-are-rises : (c : Call) → isStart c ≡ false → (s : List ℕ) → Controller s → (v : ℕ) → wakeBit v (called c s) ≡ bitOf (rises v s (called c s .state))
 wakes-are-rises c e s h v =
     wakes-in-any-words c e s v ∙ ap (λ (b : Bool). bitOf (not b && rises v s (called c s .state))) (ne-eqb (called (iarRead v) s .refusal) 7 (call-ordinary s h (iarRead v) .not-7))
