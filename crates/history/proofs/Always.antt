@@ -34,7 +34,7 @@ use Rattle.lawful_test.proofs.Passing.{lawful-passes}
 use Rattle.image.specs.Image.{image}
 use Rattle.save.specs.Save.{Saved, intoBuffer, save}
 use Rattle.load.specs.Load.{imageShape}
-use Rattle.moving.proofs.Loads.{load-cases}
+use Rattle.moving.proofs.Moving.{load-cases}
 use Rattle.moves.proofs.Acknowledges.{each-acknowledge}
 use Rattle.moves.proofs.Controllers.{chain-controls}
 use Rattle.moves.proofs.Sounds.{lawful-sound}
@@ -79,7 +79,7 @@ each-start s P refuses starts =
     load-cases bytes s (P c (deed c))
     (refuses c (deed c) refusal.Unlawful (record { ordinary = many (omega arith); of-call = refl }))
     (refuses c (deed c) refusal.ShortState (record { ordinary = few (omega arith); of-call = refl }))
-    (λ after controls long. starts c (imageShape bytes .count) (imageShape bytes .limit) after controls))
+    (λ after it. starts c (imageShape bytes .count) (imageShape bytes .limit) after (it .controls)))
     (λ c other e. absurd (true≢false (sym e ∙ other)))
 
 -- "loading answers 0, wakes nobody", and so does setup; refused ones too

@@ -44,26 +44,26 @@ abbrev pub numberUpTo : ℕ → List ℕ → ℕ → Found
 numberUpTo most image at = passing (λ n. leb n most) (foundAt 2 image at)
 
 -- a register's value has no other bits than it keeps
-abbrev pub registerAt : InterfaceValue → List ℕ → ℕ → Found
-registerAt k image at = passing (λ n. eqb (kept k n) n) (foundAt 2 image at)
+abbrev pub registerFound : InterfaceValue → List ℕ → ℕ → Found
+registerFound k image at = passing (λ n. eqb (kept k n) n) (foundAt 2 image at)
 
 unfoldable pub registersAt : List ℕ → ℕ → FoundRegisters
 registersAt image at =
-    thenNumber registers.Refused (registerAt Control image at) (λ control a.
-    thenNumber registers.Refused (registerAt PriorityMask image a) (λ mask b.
-    thenNumber registers.Refused (registerAt BinaryPoint image b) (λ point next. registers.Read control mask point next)))
+    thenNumber registers.Refused (registerFound Control image at) (λ control a.
+    thenNumber registers.Refused (registerFound PriorityMask image a) (λ mask b.
+    thenNumber registers.Refused (registerFound BinaryPoint image b) (λ point next. registers.Read control mask point next)))
 
 -- an entry of a stack, where `above` is the priority of the one before it
 abbrev pub entryFrom : ℕ → ℕ → Entry
 entryFrom n p = record { intid = record { 0 = n }; priority = priorityOf p }
 
-abbrev pub lawfulEntry : Shape → ℕ → Entry → ℕ → FoundEntry
-lawfulEntry shape above e next = cond (entryLawful shape above e) (entry.Read e next) entry.Refused
+abbrev pub entryIfLawful : Shape → ℕ → Entry → ℕ → FoundEntry
+entryIfLawful shape above e next = cond (entryLawful shape above e) (entry.Read e next) entry.Refused
 
 unfoldable pub entryFound : Shape → ℕ → List ℕ → ℕ → FoundEntry
 entryFound shape above image at =
     thenNumber entry.Refused (foundAt 2 image at) (λ n a.
-    thenNumber entry.Refused (numberUpTo 255 image a) (λ p next. lawfulEntry shape above (entryFrom n p) next))
+    thenNumber entry.Refused (numberUpTo 255 image a) (λ p next. entryIfLawful shape above (entryFrom n p) next))
 
 -- a private record in flight is its own vCPU's
 abbrev pub ownOwner : ℕ → Bool → Owner
@@ -103,8 +103,8 @@ recordFrom f p owner mask = record {
 abbrev pub lawfulNumber : Shape → ℕ → ℕ → InterruptRecord → ℕ → Bool
 lawfulNumber shape v n r x = recordLawful shape v n r && implied (isSgi (record { 0 = n })) (sourcesLawful x (r .pending))
 
-abbrev pub lawfulRecord : Shape → ℕ → ℕ → InterruptRecord → ℕ → ℕ → FoundRecord
-lawfulRecord shape v n r x next = cond (lawfulNumber shape v n r x) (records.Read r x next) records.Refused
+abbrev pub recordIfLawful : Shape → ℕ → ℕ → InterruptRecord → ℕ → ℕ → FoundRecord
+recordIfLawful shape v n r x next = cond (lawfulNumber shape v n r x) (records.Read r x next) records.Refused
 
 abbrev pub thenRest : FoundRest → (Owner → CpuTargetMask → ℕ → ℕ → FoundRecord) → FoundRecord
 thenRest rest.Refused f = records.Refused
@@ -114,4 +114,4 @@ unfoldable pub recordFound : Shape → ℕ → ℕ → List ℕ → ℕ → Foun
 recordFound shape v n image at =
     thenNumber records.Refused (numberUpTo 127 image at) (λ f a.
     thenNumber records.Refused (numberUpTo 255 image a) (λ p b.
-    thenRest (restAt v n (flag 3 f) image b) (λ owner mask x next. lawfulRecord shape v n (recordFrom f p owner mask) x next)))
+    thenRest (restAt v n (flag 3 f) image b) (λ owner mask x next. recordIfLawful shape v n (recordFrom f p owner mask) x next)))

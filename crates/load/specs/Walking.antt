@@ -87,12 +87,12 @@ recordEnd records.Refused = Refused
 recordEnd (records.Read r x next) = At next
 
 -- a record, and the source set of an SGI
-abbrev pub withNumber : Shape → ℕ → ℕ → InterruptRecord → ℕ → List ℕ → List ℕ
-withNumber shape v n r x s = cond (isSgi (record { 0 = n })) (withSources shape v n x (withRecord shape v n r s)) (withRecord shape v n r s)
+abbrev pub withInterrupt : Shape → ℕ → ℕ → InterruptRecord → ℕ → List ℕ → List ℕ
+withInterrupt shape v n r x s = cond (isSgi (record { 0 = n })) (withSources shape v n x (withRecord shape v n r s)) (withRecord shape v n r s)
 
 abbrev pub recordStored : Shape → ℕ → ℕ → FoundRecord → List ℕ → List ℕ
 recordStored shape v n records.Refused s = s
-recordStored shape v n (records.Read r x next) s = withNumber shape v n r x s
+recordStored shape v n (records.Read r x next) s = withInterrupt shape v n r x s
 
 -- a part from the place on: where it ends, and what is stored of it
 abbrev pub partEnd : Shape → List ℕ → Part → ℕ → Place

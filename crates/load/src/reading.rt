@@ -3,7 +3,7 @@ ghost use mathlib.Core.Path.{_≡_};
 ghost use Prim.Native.Nat.{_≤_, _<_};
 ghost use Rattle.groups.specs.Groups.{foundAt};
 ghost use Rattle.state.specs.Layout.{Limits};
-ghost use Rattle.load.specs.Reading.{numberUpTo, registerAt, registersAt, entryFound, ownOwner, maskFrom, sgiRest, spiRest, restAt, recordFrom, lawfulNumber, lawfulRecord, recordFound};
+ghost use Rattle.load.specs.Reading.{numberUpTo, registerFound, registersAt, entryFound, ownOwner, maskFrom, sgiRest, spiRest, restAt, recordFrom, lawfulNumber, recordIfLawful, recordFound};
 use groups::Found;
 use interrupt::CpuTargetMask;
 use interrupt::GicVcpuId;
@@ -82,7 +82,7 @@ pub fn number_up_to(image: &[u8], at: usize, most: u32) -> Found
 }
 
 fn register_at(image: &[u8], at: usize, register: InterfaceValue) -> Found
-    ensures { λ r. ⌜ r ≡ registerAt register (now (image .entry)) at ⌝ }
+    ensures { λ r. ⌜ r ≡ registerFound register (now (image .entry)) at ⌝ }
 {
     let Found::Number { value, next } = number(image, at) else {
         return Found::Refused;
@@ -267,7 +267,7 @@ fn lawful_record(
     next: usize,
 ) -> FoundRecord
     requires { ⌜ Limits shape ⌝ }
-    ensures { λ r. ⌜ r ≡ lawfulRecord shape (vcpu .0) (intid .0) «record» sources next ⌝ }
+    ensures { λ r. ⌜ r ≡ recordIfLawful shape (vcpu .0) (intid .0) «record» sources next ⌝ }
 {
     if number_lawful(shape, vcpu, intid, record, sources) {
         FoundRecord::Read {

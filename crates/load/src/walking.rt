@@ -6,7 +6,7 @@ ghost use Rattle.state.specs.Layout.{Limits, Room, stackCapacity};
 ghost use Rattle.state.specs.Words.{RecordThere, withEntry};
 ghost use Rattle.image.specs.Parts.{PartThere, partCount};
 ghost use Rattle.load.specs.Reading.{registersAt, recordFound};
-ghost use Rattle.load.specs.Walking.{withRegisters, registersEnd, registersStored, withDepth, withNumber, entrySpot, spotEnd, entriesStored, clearedFrom, serviceEnd, serviceStored, recordEnd, recordStored, partEnd, partStored, walked, partsStored};
+ghost use Rattle.load.specs.Walking.{withRegisters, registersEnd, registersStored, withDepth, withInterrupt, entrySpot, spotEnd, entriesStored, clearedFrom, serviceEnd, serviceStored, recordEnd, recordStored, partEnd, partStored, walked, partsStored};
 use crate::reading::FoundEntry;
 use crate::reading::FoundRecord;
 use crate::reading::FoundRegisters;
@@ -173,7 +173,7 @@ fn store_record(
     sources: u8,
 )
     requires { ⌜ (Room shape (now words)) × (RecordThere shape (vcpu .0) (intid .0)) ⌝ }
-    ensures { λ r. ⌜ now (words .exit) ≡ withNumber shape (vcpu .0) (intid .0) «record» sources (now (words .entry)) ⌝ }
+    ensures { λ r. ⌜ now (words .exit) ≡ withInterrupt shape (vcpu .0) (intid .0) «record» sources (now (words .entry)) ⌝ }
 {
     put_record(words, shape, vcpu, intid, record);
     if intid.is_sgi() {

@@ -17,7 +17,7 @@ use Rattle.load.specs.declared.reading.FoundRest.{FoundRest}
 use Rattle.load.specs.declared.reading.FoundRest.the-variants as rest
 use Rattle.load.specs.declared.reading.FoundRecord.{FoundRecord}
 use Rattle.load.specs.declared.reading.FoundRecord.the-variants.{Read, Refused}
-use Rattle.load.specs.Reading.{ownOwner, sgiRest, spiRest, restAt, recordFrom, lawfulNumber, lawfulRecord, thenRest, recordFound}
+use Rattle.load.specs.Reading.{ownOwner, sgiRest, spiRest, restAt, recordFrom, lawfulNumber, recordIfLawful, thenRest, recordFound}
 use Rattle.moving.proofs.BytesNumbers.{Row, row-none, row-end, row-cons, row-bounded, Bounded, onward, bounded-shows}
 use Rattle.moving.proofs.BytesFlags.{owner-back, owner-again, mask-back, mask-again, flags-fit, flags-again, record-back}
 
@@ -107,7 +107,7 @@ module _ (shape : Shape) (v n : ℕ) (image : List ℕ) (at : ℕ) where
       let inflight : flag 3 (flagsNumber r) ≡ r .inflight = ap (λ (r : InterruptRecord). r .inflight) (record-back r) in
       let last : restAt v n (flag 3 (flagsNumber r)) image (b .place) ≡ rest.Read (r .owner) (r .«cpu_target_mask») (cond (ltb n 16) x 0) next =
       rw inflight (rest-read v n (r .inflight) image (b .place) (r .owner) (r .«cpu_target_mask») x next fits small (b .rest)) in
-      simp (a .found, b .found, last) (ap (λ (r : InterruptRecord). lawfulRecord shape v n r (cond (ltb n 16) x 0) next) (record-back r) ∙ simp lawful)
+      simp (a .found, b .found, last) (ap (λ (r : InterruptRecord). recordIfLawful shape v n r (cond (ltb n 16) x 0) next) (record-back r) ∙ simp lawful)
 
   -- what is read stands there and is lawful
   abbrev Standing : FoundRecord → Type 0
@@ -122,7 +122,7 @@ module _ (shape : Shape) (v n : ℕ) (image : List ℕ) (at : ℕ) where
       last f p a b x y (restAt v n (flag 3 f) image b) (rest-stands v n (flag 3 f) image b)))
     where
       last : (f p a b : ℕ) → Bounded 127 image at f a → Bounded 255 image a p b → (it : FoundRest) → StandingRest image b (ltb n 16) (ltb n 32) it
-          → Standing (thenRest it (λ owner mask x next. lawfulRecord shape v n (recordFrom f p owner mask) x next))
+          → Standing (thenRest it (λ owner mask x next. recordIfLawful shape v n (recordFrom f p owner mask) x next))
       last f p a b x y rest.Refused z = tt
       last f p a b x y (rest.Read owner mask sources next) z = go (lawfulNumber shape v n (recordFrom f p owner mask) sources) refl
         where

@@ -32,7 +32,7 @@ use Rattle.load.specs.declared.reading.FoundRest.{FoundRest}
 use Rattle.load.specs.declared.reading.FoundRest.the-variants as rest
 use Rattle.load.specs.declared.reading.FoundRecord.{FoundRecord}
 use Rattle.load.specs.declared.reading.FoundRecord.the-variants as records
-use Rattle.load.specs.Reading.{thenNumber, passing, numberUpTo, registerAt, registersAt, entryFrom, entryFound, ownOwner, maskFrom, sgiRest, spiRest, restAt, recordFrom, lawfulNumber, thenRest, recordFound}
+use Rattle.load.specs.Reading.{thenNumber, passing, numberUpTo, registerFound, registersAt, entryFrom, entryFound, ownOwner, maskFrom, sgiRest, spiRest, restAt, recordFrom, lawfulNumber, thenRest, recordFound}
 
 -- what holds whichever way a reading goes
 pub then-all : {A : Type 0} (P : A → Type 0) (nothing : A) (f : Found) (g : ℕ → ℕ → A)
@@ -56,7 +56,7 @@ pub number-most : (most : ℕ) (image : List ℕ) (at n next : ℕ) → numberUp
 number-most most image at n next e = leb-true n most (passed (λ m. leb m most) (foundAt 2 image at) n next e)
 
 -- a register's value is as it is kept
-register-kept : (k : InterfaceValue) (image : List ℕ) (at n next : ℕ) → registerAt k image at ≡ found.Number n next → kept k n ≡ n
+register-kept : (k : InterfaceValue) (image : List ℕ) (at n next : ℕ) → registerFound k image at ≡ found.Number n next → kept k n ≡ n
 register-kept k image at n next e = eqb-true (kept k n) n (passed (λ m. eqb (kept k m) m) (foundAt 2 image at) n next e)
 
 pub record RegistersRanged (control mask point : ℕ) : Type 0 where
@@ -72,9 +72,9 @@ pub registers-ranged : (image : List ℕ) (at control mask point next : ℕ) →
     → RegistersRanged control mask point
 unfolding registersAt
 registers-ranged image at control mask point next e = subst RegistersFine e
-    (then-all RegistersFine registers.Refused (registerAt Control image at) _ tt (λ c a p.
-    then-all RegistersFine registers.Refused (registerAt PriorityMask image a) _ tt (λ m b q.
-    then-all RegistersFine registers.Refused (registerAt BinaryPoint image b) _ tt (λ x n r. record {
+    (then-all RegistersFine registers.Refused (registerFound Control image at) _ tt (λ c a p.
+    then-all RegistersFine registers.Refused (registerFound PriorityMask image a) _ tt (λ m b q.
+    then-all RegistersFine registers.Refused (registerFound BinaryPoint image b) _ tt (λ x n r. record {
       control-kept = register-kept Control image at c a p;
       mask-kept = register-kept PriorityMask image a m b q;
       point-kept = register-kept BinaryPoint image b x n r;

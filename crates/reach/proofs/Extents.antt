@@ -25,7 +25,7 @@ use Rattle.state.proofs.Validated.{limited-limits}
 use Rattle.answer.specs.Answer.{refused, gave}
 use Rattle.controller.specs.Start.{setupOf, setup}
 use Rattle.load.specs.Load.{imageShape}
-use Rattle.moving.proofs.Loads.{load-cases, sizeIn, load-beside}
+use Rattle.moving.proofs.Moving.{load-cases, sizeIn, load-beside}
 use Rattle.history.specs.History.{Call, Load, Deed, Starts, Acts, deed, startsAnew, isStart, called}
 use Rattle.history.proofs.Each.{setup-load-or-other, broken-call, any-words}
 use Rattle.reach.specs.Reach.{sizeOr, storedExtent, extentOf, extent}
@@ -51,7 +51,7 @@ size-in Outside = refl
 size-in (Within shape) = refl
 
 load-long : (bytes s : List ℕ) → length (called (Load bytes) s .state) ≡ length s
-load-long bytes s = load-cases bytes s (λ o. length (o .state) ≡ length s) refl refl (λ after controls long. long)
+load-long bytes s = load-cases bytes s (λ o. length (o .state) ≡ length s) refl refl (λ after it. it .long)
 
 module _ (a x : List ℕ) where
   longer : {n : ℕ} → n ≤ length a → n ≤ length (a ++ x)
