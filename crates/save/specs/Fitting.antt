@@ -9,12 +9,18 @@ use Rattle.groups.specs.Groups.{spelled}
 use Rattle.interrupt.specs.Types.{isSgi, isPrivateId}
 use Rattle.interrupt.specs.declared.record.CpuTargetMask.{CpuTargetMask}
 use Rattle.interrupt.specs.declared.record.Owner.{Owner}
-use Rattle.image.specs.Image.{ownerNumber, maskNumber}
+use Rattle.state.specs.declared.layout.Shape.{Shape}
+use Rattle.state.specs.Words.{entryAt}
+use Rattle.image.specs.Image.{each, ownerNumber, maskNumber, entryNumbers}
 
 -- these numbers, from `at` on: their place is near, and where they are written there is room for them
 pub record Fitting (writes : Bool) (numbers : List ℕ) (at : ℕ) (out : List ℕ) : Type 0 where
   pub near : at + length (spelled numbers) ≤ 2 ^ 32
   pub room : writes ≡ true → at + length (spelled numbers) ≤ length out
+
+-- the n oldest entries of the vCPU v, from the oldest
+abbrev pub entriesNumbers : Shape → List ℕ → ℕ → ℕ → List ℕ
+entriesNumbers shape s v n = each (λ i. entryNumbers (entryAt shape v i s)) n
 
 -- what follows the flags and the priority of the number n's record: an SGI's sources, nothing more of a PPI's, an SPI's owner and mask
 unfoldable pub restNumbers : ℕ → Owner → CpuTargetMask → ℕ → List ℕ

@@ -4,13 +4,13 @@ ghost use mathlib.Core.Path.{_≡_};
 ghost use Prim.Native.Nat.{_≤_, _<_};
 ghost use Rattle.groups.specs.Groups.{spelled, Wrote};
 ghost use Rattle.state.specs.Layout.{stackCapacity};
-ghost use Rattle.state.specs.Words.{Reached, sourcesAt, entryAt};
+ghost use Rattle.state.specs.Words.{Reached, sourcesAt};
 ghost use Rattle.word.specs.Word.{ownerInRange};
 ghost use Rattle.service.specs.Service.{Served, Sound};
-ghost use Rattle.image.specs.Image.{each, flagsNumber, ownerNumber, maskNumber, interfaceNumbers, entryNumbers, serviceNumbers, bodyNumbers, numbers, image};
+ghost use Rattle.image.specs.Image.{flagsNumber, ownerNumber, maskNumber, interfaceNumbers, serviceNumbers, bodyNumbers, numbers, image};
 ghost use Rattle.image.specs.Parts.{partNumbers, PartThere};
 ghost use Rattle.image.specs.declared.Part.the-variants.{Interrupt};
-ghost use Rattle.save.specs.Fitting.{Fitting, restNumbers};
+ghost use Rattle.save.specs.Fitting.{Fitting, entriesNumbers, restNumbers};
 use groups::put_number;
 use image::Part;
 use image::part_at;
@@ -108,8 +108,8 @@ fn put_entries(
     held: usize,
     writes: bool,
 ) -> usize
-    requires { ⌜ (Served shape (vcpu .0) (now words)) × (held ≤ stackCapacity) × (Fitting writes (each (λ i. entryNumbers (entryAt shape (vcpu .0) i (now words))) held) start (now out)) ⌝ }
-    ensures { λ r. ⌜ Wrote writes (spelled (each (λ i. entryNumbers (entryAt shape (vcpu .0) i (now (words .entry)))) held)) start (now (out .entry)) (now (out .exit)) r ⌝ }
+    requires { ⌜ (Served shape (vcpu .0) (now words)) × (held ≤ stackCapacity) × (Fitting writes (entriesNumbers shape (now words) (vcpu .0) held) start (now out)) ⌝ }
+    ensures { λ r. ⌜ Wrote writes (spelled (entriesNumbers shape (now (words .entry)) (vcpu .0) held)) start (now (out .entry)) (now (out .exit)) r ⌝ }
 {
     let mut at = start;
     let mut i = 0;

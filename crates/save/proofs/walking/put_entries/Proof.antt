@@ -4,15 +4,14 @@ use native.Mathlib.Omega.{arith}
 use borrow.Author.Needs.{needs}
 use Rattle.groups.specs.Groups.{spelled, Wrote}
 use Rattle.groups.proofs.Writing.{wrote-length}
-use Rattle.state.specs.Words.{entryAt}
-use Rattle.image.specs.Image.{each, entryNumbers}
+use Rattle.save.specs.Fitting.{entriesNumbers}
 use Rattle.save.proofs.Pieces.{loop-starts, loop-fits, loop-goes, loop-ends}
 use Rattle.save.proofs.walking.put_entries.Statement.{statement}
 use Rattle.save.proofs.walking.put_entries.Tie as tie
 
 abbrev Inv-loop : tie.InvT-loop
 Inv-loop out₀ start words shape vcpu held writes at₀ i₀ out at i =
-    (i ≤ held) × (Wrote writes (spelled (each (λ j. entryNumbers (entryAt shape (vcpu .0) j words)) i)) start out₀ out at)
+    (i ≤ held) × (Wrote writes (spelled (entriesNumbers shape words (vcpu .0) i)) start out₀ out at)
 
 abbrev μ-loop : tie.MeasureT-loop
 μ-loop out₀ start words shape vcpu held writes at₀ i₀ out at i = held - i
