@@ -2,22 +2,24 @@
 use mathlib.Core.Path.{_≡_, refl, sym, ap, _∙_}
 use mathlib.Core.Bool.{Bool, true, false, cond}
 use mathlib.Core.List.{List}
-use Prim.Native.Nat.{ℕ, zero, suc, _+_, _≤_, _<_}
+use Prim.Native.Nat.{ℕ, zero, suc, _+_, _-_, _≤_, _<_}
+use native.Mathlib.Nat.{add-zero, add-suc}
 use native.Mathlib.Numerals.{add-one}
 use native.Mathlib.Omega.{arith}
 use lib.ListN.{length}
+use borrow.Author.Tests.{le-leb, lt-leb}
 use Rattle.word.proofs.Cases.{last-or}
 use Rattle.state.specs.declared.layout.Shape.{Shape}
 use Rattle.state.specs.declared.words.Entry.{Entry}
 use Rattle.state.specs.Layout.{Room}
 use Rattle.state.specs.Loop.{upTo}
-use Rattle.state.specs.Words.{withEntry}
+use Rattle.state.specs.Words.{withEntry, withoutEntry}
 use Rattle.state.proofs.Steps.{up-idle}
 use Rattle.image.specs.Parts.{partAt}
 use Rattle.load.specs.declared.reading.FoundEntry.the-variants as entry
 use Rattle.load.specs.declared.walking.Place.the-variants.{At, Refused}
 use Rattle.load.specs.Reading.{entryFound}
-use Rattle.load.specs.Walking.{spot, lost, entryIn, entrySpot, entryStored, entriesStored, partEnd, partStored, walked, stepStored}
+use Rattle.load.specs.Walking.{spot, lost, entryIn, entrySpot, entryStored, entriesStored, clearedPast, partEnd, partStored, walked, stepStored}
 
 pub cond-same : {X : Type 0} (b : Bool) (x : X) → cond b x x ≡ x
 cond-same true x = refl
@@ -41,6 +43,21 @@ onward P step (suc n) m h p = last-or m (suc n) (omega arith) (λ e. rw (← e) 
 last-step : (f : ℕ → List ℕ → List ℕ) (s : List ℕ) (i n : ℕ) → i < n → ((j : ℕ) (r : List ℕ) → i < j → f j r ≡ r) → upTo f n s ≡ f i (upTo f i s)
 unfolding upTo
 last-step f s i n b idle = up-idle f s n (suc i) b (λ j r a _. idle j r a)
+
+pub past-cleared : (shape : Shape) (v d i : ℕ) (s r : List ℕ) → d ≤ i → r ≡ withoutEntry shape v i s → r ≡ clearedPast shape v d i s
+past-cleared shape v d i s r h e = simp (le-leb d i h) e
+
+pub past-kept : (shape : Shape) (v d i : ℕ) (s : List ℕ) → i < d → s ≡ clearedPast shape v d i s
+past-kept shape v d i s h = simp (lt-leb d i h)
+
+-- entries below the depth are passed over, and those from it up are cleared
+pub cleared-by-test : (shape : Shape) (v d n : ℕ) (s : List ℕ) → d ≤ n → upTo (clearedPast shape v d) n s ≡ upTo (λ i. withoutEntry shape v (d + i)) (n - d) s
+unfolding upTo
+cleared-by-test shape v d n s h = let e : n ≡ d + (n - d) = omega arith in ap (λ (k : ℕ). upTo (clearedPast shape v d) k s) e ∙ go (n - d)
+  where
+    go : (m : ℕ) → upTo (clearedPast shape v d) (d + m) s ≡ upTo (λ i. withoutEntry shape v (d + i)) m s
+    go zero = rw add-zero (up-idle (clearedPast shape v d) s d 0 (omega arith) (λ i r _ b. simp (lt-leb d i b)))
+    go (suc m) = rw (add-suc, le-leb d (d + m) (omega arith), go m)
 
 module _ (shape : Shape) (image : List ℕ) (start : ℕ) where
   pub lost-stays : (i n : ℕ) → i ≤ n → entrySpot shape image start i ≡ lost → entrySpot shape image start n ≡ lost

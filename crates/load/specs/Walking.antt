@@ -1,6 +1,7 @@
 -- How an image is walked through, part by part, and what is stored on the way. A reader need not believe any of it: see Reading.antt.
 use mathlib.Core.Bool.{Bool, cond}
 use mathlib.Core.List.{List}
+use lib.Dec.{leb}
 use Prim.Native.Nat.{ℕ, zero, suc, _+_, _-_}
 use Rattle.interrupt.specs.Types.{isSgi, idlePriority}
 use Rattle.interrupt.specs.declared.record.InterruptRecord.{InterruptRecord}
@@ -66,6 +67,10 @@ entryStored shape v i (entry.Read e next) s = withEntry shape v i e s
 
 unfoldable pub entriesStored : Shape → List ℕ → ℕ → ℕ → ℕ → List ℕ → List ℕ
 entriesStored shape image v start d s = upTo (λ i. entryStored shape v i (entryIn shape image (entrySpot shape image start i))) d s
+
+-- entry i, if it lies past the depth d, is cleared
+abbrev pub clearedPast : Shape → ℕ → ℕ → ℕ → List ℕ → List ℕ
+clearedPast shape v d i s = cond (leb d i) (withoutEntry shape v i s) s
 
 -- the entries from d up are cleared
 unfoldable pub clearedFrom : Shape → ℕ → ℕ → List ℕ → List ℕ

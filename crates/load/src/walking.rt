@@ -6,7 +6,7 @@ ghost use Rattle.state.specs.Layout.{Limits, Room, stackCapacity};
 ghost use Rattle.state.specs.Words.{RecordThere, withEntry};
 ghost use Rattle.image.specs.Parts.{PartThere, partCount};
 ghost use Rattle.load.specs.Reading.{registersAt, recordFound};
-ghost use Rattle.load.specs.Walking.{withRegisters, registersEnd, registersStored, withDepth, withInterrupt, entrySpot, spotEnd, entriesStored, clearedFrom, serviceEnd, serviceStored, recordEnd, recordStored, partEnd, partStored, walked, partsStored};
+ghost use Rattle.load.specs.Walking.{withRegisters, registersEnd, registersStored, withDepth, withInterrupt, entrySpot, spotEnd, entriesStored, clearedPast, clearedFrom, serviceEnd, serviceStored, recordEnd, recordStored, partEnd, partStored, walked, partsStored};
 use crate::reading::FoundEntry;
 use crate::reading::FoundRecord;
 use crate::reading::FoundRegisters;
@@ -80,15 +80,24 @@ fn take_registers(
     Place::At(next)
 }
 
-// What lies past the newest entry is cleared.
+fn clear_past(words: &mut [u32], shape: Shape, vcpu: GicVcpuId, depth: u32, i: u32)
+    requires { ⌜ (Room shape (now words)) × ((vcpu .0 < shape .count) × (i < stackCapacity)) ⌝ }
+    ensures { λ r. ⌜ now (words .exit) ≡ clearedPast shape (vcpu .0) depth i (now (words .entry)) ⌝ }
+{
+    if depth <= i {
+        clear_stack_entry(words, shape, vcpu, i as usize);
+    }
+}
+
+// What lies past the newest entry is cleared. The test in the loop keeps the compiler from making it a call of memset, which not every
+// host has.
 fn clear_from(words: &mut [u32], shape: Shape, vcpu: GicVcpuId, depth: u32)
     requires { ⌜ (Room shape (now words)) × ((vcpu .0 < shape .count) × (depth ≤ stackCapacity)) ⌝ }
     ensures { λ r. ⌜ now (words .exit) ≡ clearedFrom shape (vcpu .0) depth (now (words .entry)) ⌝ }
 {
-    let many = STACK_CAPACITY - depth;
     let mut i = 0;
-    while i < many {
-        clear_stack_entry(words, shape, vcpu, (depth + i) as usize);
+    while i < STACK_CAPACITY {
+        clear_past(words, shape, vcpu, depth, i);
         i += 1;
     }
 }
