@@ -13,7 +13,9 @@ use lib.Seq.{drop-cons, drop-drop, drop-append-seam}
 use borrow.Author.Tests.{lt-ltb, le-ltb, ltb-true, ltb-false, ne-eqb, eqb-false}
 use Rattle.groups.specs.declared.Found.{Found}
 use Rattle.groups.specs.declared.Found.the-variants.{Number, Refused}
-use Rattle.groups.specs.Groups.{groups, withGroup, foundFrom, foundAt}
+use Rattle.groups.specs.declared.Group.{Group}
+use Rattle.groups.specs.declared.Group.the-variants.{Last, More, Missing}
+use Rattle.groups.specs.Groups.{groups, withGroup, foundFrom, foundAt, GroupHere}
 use Rattle.groups.proofs.Numbers.{groups-short, groups-long, groups-below, groups-some, shorter}
 
 pub found-no-group : (image : List ℕ) (at : ℕ) → foundAt 0 image at ≡ Refused
@@ -38,6 +40,10 @@ found-more (suc left) image at l h low high =
     let e : suc left - 1 ≡ left = omega arith in
     rw (drop-cons image at 0 h, le-ltb (getD image at 0) 128 low, lt-ltb (getD image at 0) 256 high, e, add-one at)
 
+-- a group that more follow, where none may
+pub found-alone : (image : List ℕ) (at : ℕ) → at < length image → 128 ≤ getD image at 0 → getD image at 0 < 256 → foundAt 1 image at ≡ Refused
+found-alone image at h low high = found-more 1 image at (omega arith) h low high ∙ rw (found-no-group image (at + 1))
+
 last : (left b : ℕ) (s : List ℕ) (at : ℕ) → b < 128 → foundFrom (suc left) (b ∷ s) at ≡ Number b (at + 1)
 unfolding foundFrom
 last left b s at h = simp (lt-ltb b 128 h)
@@ -45,6 +51,16 @@ last left b s at h = simp (lt-ltb b 128 h)
 more : (left g : ℕ) (s : List ℕ) (at : ℕ) → g < 128 → foundFrom (suc left) ((128 + g) ∷ s) at ≡ withGroup g (foundFrom left s (at + 1))
 unfolding foundFrom
 more left g s at h = let e : 128 + g - 128 ≡ g = omega arith in simp (le-ltb (128 + g) 128 (omega arith), lt-ltb (128 + g) 256 (omega arith), e)
+
+-- what one group says of the number that it begins
+pub here-last : (left : ℕ) (image : List ℕ) (at : ℕ) (group : Group) (n : ℕ) → GroupHere left image at group → group ≡ Last n → GroupHere left image at (Last n)
+here-last left image at group n h e = rw e at h
+
+pub here-more : (left : ℕ) (image : List ℕ) (at : ℕ) (group : Group) (n : ℕ) → GroupHere left image at group → group ≡ More n → GroupHere left image at (More n)
+here-more left image at group n h e = rw e at h
+
+pub here-none : (left : ℕ) (image : List ℕ) (at : ℕ) (group : Group) → GroupHere left image at group → group ≡ Missing → GroupHere left image at Missing
+here-none left image at group h e = rw e at h
 
 -- what was written is read back, whatever follows it
 read-back : (left n : ℕ) (s : List ℕ) (at : ℕ) → n < 128 ^ suc left → foundFrom (suc left) (groups n ++ s) at ≡ Number n (at + length (groups n))

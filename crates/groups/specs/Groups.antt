@@ -3,12 +3,14 @@
 use mathlib.Core.Bool.{Bool, true, cond}
 use mathlib.Core.List.{List, [], _∷_, _++_}
 use mathlib.Core.Path.{_≡_}
-use Prim.Native.Nat.{ℕ, zero, suc, _+_, _-_, _*_, _/_, _%_, _≤_}
+use Prim.Native.Nat.{ℕ, zero, suc, _+_, _-_, _*_, _/_, _%_, _≤_, _<_}
 use lib.Dec.{eqb, ltb}
 use lib.ListN.{length, drop}
 use lib.Seq.{sets}
 use Rattle.groups.specs.declared.Found.{Found}
 use Rattle.groups.specs.declared.Found.the-variants.{Number, Refused}
+use Rattle.groups.specs.declared.Group.{Group}
+use Rattle.groups.specs.declared.Group.the-variants.{Last, More, Missing}
 
 -- the bytes of n, after at most k groups that are not the last: "lowest first, top bit set where more follow, in the shortest form only"
 unfoldable pub groupsWithin : ℕ → ℕ → List ℕ
@@ -39,6 +41,13 @@ foundFrom (suc left) (b ∷ s) at =
 -- .. and that begins at a place of the image, with the place after it
 unfoldable pub foundAt : ℕ → List ℕ → ℕ → Found
 foundAt left image at = foundFrom left (drop at image) at
+
+-- what one group says of the number that it begins
+abbrev pub GroupHere : ℕ → List ℕ → ℕ → Group → Type 0
+GroupHere left image at (Last n) = (at < length image) × (foundAt left image at ≡ Number n (at + 1))
+GroupHere left image at (More group) =
+    (at < length image) × ((0 < left) × ((group < 128) × (foundAt left image at ≡ withGroup group (foundAt (left - 1) image (at + 1)))))
+GroupHere left image at Missing = foundAt left image at ≡ Refused
 
 -- the text stands in the bytes from `at` up and nothing else changed, or nothing changed at all: measuring answers the same end
 pub record Wrote (writes : Bool) (text : List ℕ) (at : ℕ) (before after : List ℕ) (end : ℕ) : Type 0 where

@@ -2,34 +2,48 @@
 ghost use mathlib.Core.Bool.{true};
 ghost use mathlib.Core.List.{[], _∷_};
 ghost use mathlib.Core.Path.{_≡_};
-ghost use Prim.Native.Nat.{_+_, _^_, _≤_, _<_};
+ghost use Prim.Native.Nat.{ℕ, _+_, _^_, _≤_, _<_};
 ghost use lib.ListN.{length};
-ghost use Rattle.groups.specs.Groups.{groups, foundAt, Wrote};
+ghost use Rattle.groups.specs.declared.Found.the-variants.{Number};
+ghost use Rattle.groups.specs.Groups.{groups, withGroup, foundAt, GroupHere, Wrote};
 
 pub enum Found {
     Number { value: u32, next: usize },
     Refused,
 }
 
-// Each further group is read the same way, one group fewer left.
-pub fn number_at(image: &[u8], at: usize, left: u32) -> Found
-    requires { ⌜ left ≤ 4 ⌝ }
-    ensures { λ r. ⌜ r ≡ foundAt left (now (image .entry)) at ⌝ }
+// What a number begins with: its last group, or one that more follow.
+enum Group {
+    Last(u32),
+    More(u32),
+    Missing,
+}
+
+// None where no group is left, and none that says that more follow where it has to be the last.
+fn group_at(image: &[u8], at: usize, left: u32) -> Group
+    ensures { λ r. ⌜ GroupHere left (now (image .entry)) at r ⌝ }
 {
     if left == 0 {
-        return Found::Refused;
+        return Group::Missing;
     }
     if image.len() <= at {
-        return Found::Refused;
+        return Group::Missing;
     }
     let byte = image[at] as u32;
     if byte < 128 {
-        return Found::Number {
-            value: byte,
-            next: at + 1,
-        };
+        return Group::Last(byte);
     }
-    let above = number_at(image, at + 1, left - 1);
+    if left == 1 {
+        Group::Missing
+    } else {
+        Group::More(byte - 128)
+    }
+}
+
+fn with_group(group: u32, above: Found) -> Found
+    requires { ⌜ (group < 128) × ((n next : ℕ) → above ≡ Number n next → n < 2 ^ 21) ⌝ }
+    ensures { λ r. ⌜ r ≡ withGroup group above ⌝ }
+{
     let Found::Number { value, next } = above else {
         return Found::Refused;
     };
@@ -37,8 +51,40 @@ pub fn number_at(image: &[u8], at: usize, left: u32) -> Found
         return Found::Refused;
     }
     Found::Number {
-        value: byte - 128 + 128 * value,
+        value: group + 128 * value,
         next,
+    }
+}
+
+// Each further group is read the same way, one group fewer left.
+fn further_at(image: &[u8], at: usize, left: u32) -> Found
+    requires { ⌜ left ≤ 4 ⌝ }
+    ensures { λ r. ⌜ r ≡ foundAt left (now (image .entry)) at ⌝ }
+{
+    let group = group_at(image, at, left);
+    match group {
+        Group::Last(value) => Found::Number {
+            value,
+            next: at + 1,
+        },
+        Group::More(value) => with_group(value, further_at(image, at + 1, left - 1)),
+        Group::Missing => Found::Refused,
+    }
+}
+
+// As `further_at`, and does not call itself: where the count of groups is known, no call is left of it.
+pub fn number_at(image: &[u8], at: usize, left: u32) -> Found
+    requires { ⌜ left ≤ 4 ⌝ }
+    ensures { λ r. ⌜ r ≡ foundAt left (now (image .entry)) at ⌝ }
+{
+    let group = group_at(image, at, left);
+    match group {
+        Group::Last(value) => Found::Number {
+            value,
+            next: at + 1,
+        },
+        Group::More(value) => with_group(value, further_at(image, at + 1, left - 1)),
+        Group::Missing => Found::Refused,
     }
 }
 
