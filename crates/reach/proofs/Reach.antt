@@ -57,7 +57,7 @@ module _ (cs : List Call) (others : noStart cs ≡ true) (s : List ℕ) where
   past-never-read r = calls-never-read (storedExtent s) cs s r (no-start-reach (storedExtent s) cs others s (omega arith))
 
 -- a setup or load that is accepted, and such calls after it
-held-stored : (shape : Shape) (s : List ℕ) → HoldsState shape s → storedShape s ≡ Within shape
+pub held-stored : (shape : Shape) (s : List ℕ) → HoldsState shape s → storedShape s ≡ Within shape
 held-stored shape s h =
     let c : getD s 0 0 ≡ shape .count = ap (λ (t : Shape). t .count) (sym (h .stored)) in
     let l : getD s 1 0 ≡ shape .limit = ap (λ (t : Shape). t .limit) (sym (h .stored)) in

@@ -1,0 +1,2 @@
+-- What a move leaves of a guest: all of it.
+pub mod Moved
