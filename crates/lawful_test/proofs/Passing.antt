@@ -26,7 +26,7 @@ use Rattle.service.specs.Service.{depthAt, stackTo, runningOf}
 use Rattle.lawful.specs.Lawful.{priorityAt, Charged, OrderlyRecord, LawfulRecord, Lawful}
 use Rattle.lawful_test.specs.LawfulTest.{implied, ownerLawful, maskLawful, sgiLawful, recordLawful, sourcesLawful, numberLawful, entryLawfulAt, stackLawful, vcpuLawful, isLawful}
 
-implied-holds : (a b : Bool) → (a ≡ true → b ≡ true) → implied a b ≡ true
+pub implied-holds : (a b : Bool) → (a ≡ true → b ≡ true) → implied a b ≡ true
 implied-holds true b h = h refl
 implied-holds false b h = refl
 

@@ -1,1 +1,2 @@
 pub mod LawfulTest
+pub mod Quiet

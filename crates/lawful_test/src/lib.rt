@@ -1,12 +1,13 @@
 // Whether the words of a state are lawful: one pass, in which each record and each entry under service is read once.
 // What lawful means is in crates/lawful; that the test says just this, in proofs/Passing.antt.
 ghost use mathlib.Core.Path.{_≡_};
-ghost use Prim.Native.Nat.{_+_, _≤_, _<_};
-ghost use Rattle.state.specs.Layout.{Limits};
+ghost use Prim.Native.Nat.{_-_, _≤_};
+ghost use Rattle.state.specs.Layout.{Limits, Sources};
 ghost use Rattle.state.specs.Loop.{everyBelow};
-ghost use Rattle.state.specs.Words.{Reached};
+ghost use Rattle.state.specs.Words.{Reached, HoldsSlot};
 ghost use Rattle.service.specs.Service.{Served, Sound};
 ghost use Rattle.lawful_test.specs.LawfulTest.{mayServe, ownerLawful, maskLawful, sgiLawful, recordLawful, sourcesLawful, numberLawful, numbersLawful, entryLawful, stackLawful, vcpuLawful, isLawful};
+ghost use Rattle.lawful_test.specs.Quiet.{quiet};
 use interrupt::CpuTargetMask;
 use interrupt::GicVcpuId;
 use interrupt::IntId;
@@ -17,9 +18,23 @@ use service::depth;
 use state::Entry;
 use state::Shape;
 use state::layout::FIRST_SPI;
-use state::words::record;
+use state::layout::record_place;
 use state::words::sgi_sources;
 use state::words::stack_entry;
+use word::decode;
+
+const SGIS: u32 = 16;
+
+const PPIS: u32 = 16;
+
+// Of a record's word, what the lowest bit of a part counts: in flight, the line, the mask's being set, the mask.
+const INFLIGHT: u32 = 8;
+
+const LINE: u32 = 32;
+
+const MASK_SET: u32 = 128;
+
+const TARGET_MASK: u32 = 0x1_0000;
 
 // A private record is its own vCPU's, an SPI's any existing one's.
 fn may_serve(shape: Shape, vcpu: GicVcpuId, intid: IntId, server: GicVcpuId) -> bool
@@ -51,7 +66,7 @@ fn mask_lawful(shape: Shape, intid: IntId, mask: CpuTargetMask) -> bool
     }
 }
 
-fn sgi_lawful(intid: IntId, record: InterruptRecord) -> bool
+fn edge_lawful(intid: IntId, record: InterruptRecord) -> bool
     ensures { λ r. ⌜ r ≡ sgiLawful (intid .0) «record» ⌝ }
 {
     let trigger = record.trigger;
@@ -68,7 +83,7 @@ pub fn record_lawful(shape: Shape, vcpu: GicVcpuId, intid: IntId, record: Interr
         & (!record.redelivery_pending | record.inflight)
         & owner_lawful(shape, vcpu, intid, record.inflight, owner)
         & mask_lawful(shape, intid, mask)
-        & sgi_lawful(intid, record)
+        & edge_lawful(intid, record)
 }
 
 // An SGI is pending exactly when a source is set.
@@ -78,27 +93,90 @@ pub fn sources_lawful(sources: u8, pending: bool) -> bool
     if pending { sources != 0 } else { sources == 0 }
 }
 
-fn number_lawful(words: &[u32], shape: Shape, vcpu: GicVcpuId, intid: IntId) -> bool
-    requires { ⌜ Reached shape (vcpu .0) (intid .0) (now words) ⌝ }
-    ensures { λ r. ⌜ r ≡ numberLawful shape (vcpu .0) (now (words .entry)) (intid .0) ⌝ }
+// Told by few instructions: neither in flight nor with a redelivery noted, and above its priority nothing from `bound` up, so nobody's. Most
+// records of a state are quiet.
+fn is_quiet(word: u32, bound: u32) -> bool
+    ensures { λ r. ⌜ r ≡ quiet bound word ⌝ }
 {
-    let found = record(words, shape, vcpu, intid);
-    let lawful = record_lawful(shape, vcpu, intid, found);
-    if intid.is_sgi() {
-        lawful & sources_lawful(sgi_sources(words, shape, vcpu, intid), found.pending)
-    } else {
-        lawful
-    }
+    (word / INFLIGHT % 4 == 0) & (word / TARGET_MASK < bound)
 }
 
-// The records of `many` numbers from `first` up, as `vcpu` meets them.
-fn numbers_lawful(words: &[u32], shape: Shape, vcpu: GicVcpuId, first: u32, many: u32) -> bool
-    requires { ⌜ (Served shape (vcpu .0) (now words)) × (first + many ≤ shape .limit) ⌝ }
-    ensures { λ r. ⌜ r ≡ numbersLawful shape (vcpu .0) (now (words .entry)) first many ⌝ }
+fn sgi_lawful(words: &[u32], shape: Shape, vcpu: GicVcpuId, sgi: IntId) -> bool
+    requires { ⌜ HoldsSlot shape (Sources (vcpu .0) (sgi .0)) (now words) ⌝ }
+    ensures { λ r. ⌜ r ≡ numberLawful shape (vcpu .0) (now (words .entry)) (sgi .0) ⌝ }
+{
+    let at = record_place(shape, vcpu, sgi);
+    let word = words[at];
+    let found = decode(word);
+    let sourced = sources_lawful(sgi_sources(words, shape, vcpu, sgi), found.pending);
+    // Edge, with its line low and no mask.
+    if is_quiet(word, 1) & (word / LINE % 8 == 2) {
+        return sourced;
+    }
+    record_lawful(shape, vcpu, sgi, found) & sourced
+}
+
+fn sgis_lawful(words: &[u32], shape: Shape, vcpu: GicVcpuId) -> bool
+    requires { ⌜ Served shape (vcpu .0) (now words) ⌝ }
+    ensures { λ r. ⌜ r ≡ everyBelow (numberLawful shape (vcpu .0) (now (words .entry))) 16 ⌝ }
 {
     let mut i = 0;
+    while i < SGIS {
+        if !sgi_lawful(words, shape, vcpu, IntId(i)) {
+            return false;
+        }
+        i += 1;
+    }
+    true
+}
+
+fn ppi_lawful(words: &[u32], shape: Shape, vcpu: GicVcpuId, ppi: IntId) -> bool
+    requires { ⌜ (Reached shape (vcpu .0) (ppi .0) (now words)) × (16 ≤ ppi .0) ⌝ }
+    ensures { λ r. ⌜ r ≡ numberLawful shape (vcpu .0) (now (words .entry)) (ppi .0) ⌝ }
+{
+    let at = record_place(shape, vcpu, ppi);
+    let word = words[at];
+    if is_quiet(word, 1) & (word / MASK_SET % 2 == 0) {
+        return true;
+    }
+    record_lawful(shape, vcpu, ppi, decode(word))
+}
+
+fn ppis_lawful(words: &[u32], shape: Shape, vcpu: GicVcpuId) -> bool
+    requires { ⌜ Served shape (vcpu .0) (now words) ⌝ }
+    ensures { λ r. ⌜ r ≡ numbersLawful shape (vcpu .0) (now (words .entry)) 16 16 ⌝ }
+{
+    let mut i = 0;
+    while i < PPIS {
+        if !ppi_lawful(words, shape, vcpu, IntId(SGIS + i)) {
+            return false;
+        }
+        i += 1;
+    }
+    true
+}
+
+// The records of SPIs are met as vCPU 0 meets them.
+fn spi_lawful(words: &[u32], shape: Shape, spi: IntId) -> bool
+    requires { ⌜ (Reached shape 0 (spi .0) (now words)) × (32 ≤ spi .0) ⌝ }
+    ensures { λ r. ⌜ r ≡ numberLawful shape 0 (now (words .entry)) (spi .0) ⌝ }
+{
+    let at = record_place(shape, GicVcpuId(0), spi);
+    let word = words[at];
+    if is_quiet(word, 1u32 << shape.count) {
+        return true;
+    }
+    record_lawful(shape, GicVcpuId(0), spi, decode(word))
+}
+
+fn spis_lawful(words: &[u32], shape: Shape) -> bool
+    requires { ⌜ Sound shape (now words) ⌝ }
+    ensures { λ r. ⌜ r ≡ numbersLawful shape 0 (now (words .entry)) 32 (shape .limit - 32) ⌝ }
+{
+    let many = shape.limit - FIRST_SPI;
+    let mut i = 0;
     while i < many {
-        if !number_lawful(words, shape, vcpu, IntId(first + i)) {
+        if !spi_lawful(words, shape, IntId(FIRST_SPI + i)) {
             return false;
         }
         i += 1;
@@ -135,8 +213,11 @@ fn vcpu_lawful(words: &[u32], shape: Shape, vcpu: GicVcpuId) -> bool
     requires { ⌜ Served shape (vcpu .0) (now words) ⌝ }
     ensures { λ r. ⌜ r ≡ vcpuLawful shape (now (words .entry)) (vcpu .0) ⌝ }
 {
-    if stack_lawful(words, shape, vcpu) {
-        numbers_lawful(words, shape, vcpu, 0, FIRST_SPI)
+    if !stack_lawful(words, shape, vcpu) {
+        return false;
+    }
+    if sgis_lawful(words, shape, vcpu) {
+        ppis_lawful(words, shape, vcpu)
     } else {
         false
     }
@@ -157,14 +238,13 @@ fn vcpus_lawful(words: &[u32], shape: Shape) -> bool
     true
 }
 
-// Of words that refusal 6 lets pass. The records of SPIs are met as vCPU 0 meets them.
+// Of words that refusal 6 lets pass.
 pub fn is_lawful(words: &[u32], shape: Shape) -> bool
     requires { ⌜ Sound shape (now words) ⌝ }
     ensures { λ r. ⌜ r ≡ isLawful shape (now (words .entry)) ⌝ }
 {
     if vcpus_lawful(words, shape) {
-        let spis = shape.limit - FIRST_SPI;
-        numbers_lawful(words, shape, GicVcpuId(0), FIRST_SPI, spis)
+        spis_lawful(words, shape)
     } else {
         false
     }

@@ -1,6 +1,4 @@
 -- `lawful_test::is_lawful` meets its contract. Assumes nothing.
-use native.Mathlib.Omega.{arith}
-use Rattle.service.proofs.Soundness.{sound-served}
 use Rattle.lawful_test.specs.LawfulTest.{isLawful}
 use borrow.Author.Needs.{needs}
 use Rattle.lawful_test.proofs.is_lawful.Statement.{statement}
@@ -9,15 +7,12 @@ use Rattle.lawful_test.proofs.is_lawful.Tie as tie
 vcpus-lawful-requires : tie.Need-vcpus-lawful-requires
 vcpus-lawful-requires c κs = search needs
 
-sub-spis : tie.Need-sub-spis
-sub-spis c = search needs
-
-numbers-lawful-requires : tie.Need-numbers-lawful-requires
-numbers-lawful-requires c κs = (sound-served 0 (c .before .before .before .before .pre) (omega arith), omega arith)
+spis-lawful-requires : tie.Need-spis-lawful-requires
+spis-lawful-requires c κs = search needs
 
 returns : tie.Need-returns
 unfolding isLawful
-returns c = simp (← c .before .before .before .vcpus-lawful .ensures, c .before .before .if1 .taken) (c .numbers-lawful .ensures)
+returns c = simp (← c .before .before .vcpus-lawful .ensures, c .before .if1 .taken) (c .spis-lawful .ensures)
 
 returns-2 : tie.Need-returns-2
 unfolding isLawful
@@ -26,4 +21,4 @@ returns-2 c = simp (← c .before .vcpus-lawful .ensures, c .if1 .left)
 pub is-lawful-spec : {M : Type 1} → statement M
 is-lawful-spec =
     tie.close
-    (tie.spec vcpus-lawful-requires sub-spis numbers-lawful-requires returns returns-2)
+    (tie.spec vcpus-lawful-requires spis-lawful-requires returns returns-2)

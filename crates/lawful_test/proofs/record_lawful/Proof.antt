@@ -10,13 +10,13 @@ owner-lawful-requires c κs = search needs
 mask-lawful-requires : tie.Need-mask-lawful-requires
 mask-lawful-requires c κs = search needs
 
-sgi-lawful-requires : tie.Need-sgi-lawful-requires
-sgi-lawful-requires c κs = search needs
+edge-lawful-requires : tie.Need-edge-lawful-requires
+edge-lawful-requires c κs = search needs
 
 returns : tie.Need-returns
 unfolding recordLawful
-returns c = simp (c .before .before .owner-lawful .ensures, c .before .mask-lawful .ensures, c .sgi-lawful .ensures)
+returns c = simp (c .before .before .owner-lawful .ensures, c .before .mask-lawful .ensures, c .edge-lawful .ensures)
 
 pub record-lawful-spec : {M : Type 1} → statement M
 record-lawful-spec =
-    tie.close (tie.spec owner-lawful-requires mask-lawful-requires sgi-lawful-requires returns)
+    tie.close (tie.spec owner-lawful-requires mask-lawful-requires edge-lawful-requires returns)

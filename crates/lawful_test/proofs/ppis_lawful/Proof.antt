@@ -1,4 +1,4 @@
--- `lawful_test::numbers_lawful` meets its contract. Assumes nothing.
+-- `lawful_test::ppis_lawful` meets its contract. Assumes nothing.
 use mathlib.Core.Bool.{true}
 use mathlib.Core.Path.{_≡_}
 use Prim.Native.Nat.{_+_, _-_, _≤_}
@@ -7,30 +7,30 @@ use borrow.Author.Needs.{needs}
 use Rattle.state.specs.Loop.{everyBelow}
 use Rattle.lawful_test.specs.LawfulTest.{numberLawful, numbersLawful}
 use Rattle.lawful_test.proofs.Loops.{ends, goes-on, leaves}
-use Rattle.lawful_test.proofs.numbers_lawful.Statement.{statement}
-use Rattle.lawful_test.proofs.numbers_lawful.Tie as tie
+use Rattle.lawful_test.proofs.ppis_lawful.Statement.{statement}
+use Rattle.lawful_test.proofs.ppis_lawful.Tie as tie
 
 abbrev Inv-loop : tie.InvT-loop
-Inv-loop words shape vcpu first many i₀ i = (i ≤ many) × (numbersLawful shape (vcpu .0) words first i ≡ true)
+Inv-loop words shape vcpu i₀ i = (i ≤ 16) × (numbersLawful shape (vcpu .0) words 16 i ≡ true)
 
 abbrev μ-loop : tie.MeasureT-loop
-μ-loop words shape vcpu first many i₀ i = many - i
+μ-loop words shape vcpu i₀ i = 16 - i
 
 loop-holds : tie.Need-loop-holds Inv-loop μ-loop
 unfolding everyBelow
 loop-holds c = search needs
 
-add-t8 : tie.Need-add-t8 Inv-loop μ-loop
-add-t8 c = search needs
+add-t6 : tie.Need-add-t6 Inv-loop μ-loop
+add-t6 c = search needs
 
-number-lawful-requires : tie.Need-number-lawful-requires Inv-loop μ-loop
-number-lawful-requires c κs = search needs
+ppi-lawful-requires : tie.Need-ppi-lawful-requires Inv-loop μ-loop
+ppi-lawful-requires c κs = search needs
 
 returns : tie.Need-returns Inv-loop μ-loop
 returns c =
     let a = c .before .before .before .before .before .args in
     let i = c .before .before .before .loop .i in
-    leaves (λ k. numberLawful (a .shape) (a .vcpu .0) (a .words .now) (a .first + k)) i _ (c .before .number-lawful .ensures) (a .many) (omega arith) (c .if1 .taken)
+    leaves (λ k. numberLawful (a .shape) (a .vcpu .0) (a .words .now) (16 + k)) i _ (c .before .ppi-lawful .ensures) 16 (omega arith) (c .if1 .taken)
 
 add-i : tie.Need-add-i Inv-loop μ-loop
 add-i c = search needs
@@ -42,22 +42,22 @@ loop-again : tie.Need-loop-again Inv-loop μ-loop
 loop-again c =
     let a = c .before .before .before .before .before .args in
     let l = c .before .before .before .loop in
-    (search needs, goes-on (λ k. numberLawful (a .shape) (a .vcpu .0) (a .words .now) (a .first + k)) (l .i) _ (c .before .number-lawful .ensures) (l .inv .1) (c .if1 .left))
+    (search needs, goes-on (λ k. numberLawful (a .shape) (a .vcpu .0) (a .words .now) (16 + k)) (l .i) _ (c .before .ppi-lawful .ensures) (l .inv .1) (c .if1 .left))
 
 returns-2 : tie.Need-returns-2 Inv-loop μ-loop
 returns-2 c =
     let a = c .before .before .before .args in
-    ends (λ k. numberLawful (a .shape) (a .vcpu .0) (a .words .now) (a .first + k)) (c .before .loop .i) _ (c .before .loop .inv .1) (omega arith)
+    ends (λ k. numberLawful (a .shape) (a .vcpu .0) (a .words .now) (16 + k)) (c .before .loop .i) _ (c .before .loop .inv .1) (omega arith)
 
-pub numbers-lawful-spec : {M : Type 1} → statement M
-numbers-lawful-spec =
+pub ppis-lawful-spec : {M : Type 1} → statement M
+ppis-lawful-spec =
     tie.close
     (tie.spec
     Inv-loop
     μ-loop
     loop-holds
-    add-t8
-    number-lawful-requires
+    add-t6
+    ppi-lawful-requires
     returns
     add-i
     loop-less
