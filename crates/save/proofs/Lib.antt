@@ -1,4 +1,3 @@
 pub mod Pieces
-pub mod Rest
 pub mod Bound
 pub mod Saved

@@ -1,20 +1,15 @@
-// The walk through a state, part by part: taken to measure its image, and then to write it.
+// The walk through a state, section by section: taken to measure its image, and then to write it.
 ghost use mathlib.Core.List.{[], _∷_};
 ghost use mathlib.Core.Path.{_≡_};
-ghost use Prim.Native.Nat.{_≤_, _<_};
+ghost use Prim.Native.Nat.{_-_, _≤_, _<_};
 ghost use Rattle.groups.specs.Groups.{spelled, Wrote};
 ghost use Rattle.state.specs.Layout.{stackCapacity};
-ghost use Rattle.state.specs.Words.{Reached, sourcesAt};
+ghost use Rattle.state.specs.Words.{Reached, recordAt};
 ghost use Rattle.word.specs.Word.{ownerInRange};
 ghost use Rattle.service.specs.Service.{Served, Sound};
-ghost use Rattle.image.specs.Image.{flagsNumber, ownerNumber, maskNumber, interfaceNumbers, serviceNumbers, bodyNumbers, numbers, image};
-ghost use Rattle.image.specs.Parts.{partNumbers, PartThere};
-ghost use Rattle.image.specs.declared.Part.the-variants.{Interrupt};
-ghost use Rattle.save.specs.Fitting.{Fitting, entriesNumbers, restNumbers};
+ghost use Rattle.image.specs.Image.{each, flagsNumber, ownerNumber, maskNumber, interfaceNumbers, serviceNumbers, privateNumbersAt, spiNumbers, spiNumbersAt, bodyNumbers, numbers, image};
+ghost use Rattle.save.specs.Fitting.{Fitting, entriesNumbers};
 use groups::put_number;
-use image::Part;
-use image::part_at;
-use image::part_count;
 use interrupt::CpuTargetMask;
 use interrupt::GicVcpuId;
 use interrupt::IntId;
@@ -23,6 +18,7 @@ use interrupt::Owner;
 use service::depth;
 use state::InterfaceValue;
 use state::Shape;
+use state::layout::FIRST_SPI;
 use state::words::distributor_control;
 use state::words::interface_value;
 use state::words::record;
@@ -137,32 +133,7 @@ fn put_service(
     put_entries(out, next, words, shape, vcpu, held as usize, writes)
 }
 
-// What follows a record's flags and priority.
-fn put_rest(
-    out: &mut [u8],
-    at: usize,
-    words: &[u32],
-    shape: Shape,
-    vcpu: GicVcpuId,
-    intid: IntId,
-    owner: Owner,
-    mask: CpuTargetMask,
-    writes: bool,
-) -> usize
-    requires { ⌜ (Reached shape (vcpu .0) (intid .0) (now words)) × (ownerInRange owner) × (Fitting writes (restNumbers (intid .0) owner mask (sourcesAt shape (vcpu .0) (intid .0) (now words))) at (now out)) ⌝ }
-    ensures { λ r. ⌜ Wrote writes (spelled (restNumbers (intid .0) owner mask (sourcesAt shape (vcpu .0) (intid .0) (now (words .entry))))) at (now (out .entry)) (now (out .exit)) r ⌝ }
-{
-    if intid.is_sgi() {
-        let sources = sgi_sources(words, shape, vcpu, intid);
-        return put_number(out, at, sources as u32, writes);
-    }
-    if intid.is_private() {
-        return at;
-    }
-    put_two(out, at, owner_number(owner), mask_number(mask), writes)
-}
-
-fn put_record(
+fn put_private(
     out: &mut [u8],
     at: usize,
     words: &[u32],
@@ -171,47 +142,125 @@ fn put_record(
     intid: IntId,
     writes: bool,
 ) -> usize
-    requires { ⌜ (Reached shape (vcpu .0) (intid .0) (now words)) × (Fitting writes (partNumbers shape (now words) (Interrupt vcpu intid)) at (now out)) ⌝ }
-    ensures { λ r. ⌜ Wrote writes (spelled (partNumbers shape (now (words .entry)) (Interrupt vcpu intid))) at (now (out .entry)) (now (out .exit)) r ⌝ }
+    requires { ⌜ (Reached shape (vcpu .0) (intid .0) (now words)) × (Fitting writes (privateNumbersAt shape (now words) (vcpu .0) (intid .0)) at (now out)) ⌝ }
+    ensures { λ r. ⌜ Wrote writes (spelled (privateNumbersAt shape (now (words .entry)) (vcpu .0) (intid .0))) at (now (out .entry)) (now (out .exit)) r ⌝ }
 {
     let found = record(words, shape, vcpu, intid);
+    let flags = flags_number(found);
+    let next = put_two(out, at, flags, found.priority.0 as u32, writes);
+    if intid.is_sgi() {
+        let sources = sgi_sources(words, shape, vcpu, intid);
+        return put_number(out, next, sources as u32, writes);
+    }
+    next
+}
+
+// The record of an SPI is every vCPU's.
+fn put_spi(
+    out: &mut [u8],
+    at: usize,
+    words: &[u32],
+    shape: Shape,
+    spi: IntId,
+    writes: bool,
+) -> usize
+    requires { ⌜ (Reached shape 0 (spi .0) (now words)) × (Fitting writes (spiNumbers (recordAt shape 0 (spi .0) (now words))) at (now out)) ⌝ }
+    ensures { λ r. ⌜ Wrote writes (spelled (spiNumbers (recordAt shape 0 (spi .0) (now (words .entry))))) at (now (out .entry)) (now (out .exit)) r ⌝ }
+{
+    let found = record(words, shape, GicVcpuId(0), spi);
     let owner = found.owner;
     let mask = found.cpu_target_mask;
     let flags = flags_number(found);
     let next = put_two(out, at, flags, found.priority.0 as u32, writes);
-    put_rest(out, next, words, shape, vcpu, intid, owner, mask, writes)
+    put_two(out, next, owner_number(owner), mask_number(mask), writes)
 }
 
-fn put_part(
+// A vCPU's private records.
+fn put_own(
     out: &mut [u8],
-    at: usize,
+    start: usize,
     words: &[u32],
     shape: Shape,
-    part: Part,
+    vcpu: GicVcpuId,
     writes: bool,
 ) -> usize
-    requires { ⌜ (Sound shape (now words)) × (PartThere shape part) × (Fitting writes (partNumbers shape (now words) part) at (now out)) ⌝ }
-    ensures { λ r. ⌜ Wrote writes (spelled (partNumbers shape (now (words .entry)) part)) at (now (out .entry)) (now (out .exit)) r ⌝ }
+    requires { ⌜ (Served shape (vcpu .0) (now words)) × (Fitting writes (each (privateNumbersAt shape (now words) (vcpu .0)) 32) start (now out)) ⌝ }
+    ensures { λ r. ⌜ Wrote writes (spelled (each (privateNumbersAt shape (now (words .entry)) (vcpu .0)) 32)) start (now (out .entry)) (now (out .exit)) r ⌝ }
 {
-    match part {
-        Part::Registers(vcpu) => put_registers(out, at, words, shape, vcpu, writes),
-        Part::Service(vcpu) => put_service(out, at, words, shape, vcpu, writes),
-        Part::Interrupt(vcpu, intid) => put_record(out, at, words, shape, vcpu, intid, writes),
+    let mut at = start;
+    let mut n = 0;
+    while n < FIRST_SPI {
+        at = put_private(out, at, words, shape, vcpu, IntId(n), writes);
+        n += 1;
     }
+    at
 }
 
-fn put_parts(out: &mut [u8], start: usize, words: &[u32], shape: Shape, writes: bool) -> usize
+// The four sections of an image, each with a loop of its own: what is told once of a section is not asked of each number in it.
+fn put_interfaces(out: &mut [u8], start: usize, words: &[u32], shape: Shape, writes: bool) -> usize
+    requires { ⌜ (Sound shape (now words)) × (Fitting writes (each (interfaceNumbers shape (now words)) (shape .count)) start (now out)) ⌝ }
+    ensures { λ r. ⌜ Wrote writes (spelled (each (interfaceNumbers shape (now (words .entry))) (shape .count))) start (now (out .entry)) (now (out .exit)) r ⌝ }
+{
+    let count = shape.count;
+    let mut at = start;
+    let mut v = 0;
+    while v < count {
+        at = put_registers(out, at, words, shape, GicVcpuId(v), writes);
+        v += 1;
+    }
+    at
+}
+
+fn put_stacks(out: &mut [u8], start: usize, words: &[u32], shape: Shape, writes: bool) -> usize
+    requires { ⌜ (Sound shape (now words)) × (Fitting writes (each (serviceNumbers shape (now words)) (shape .count)) start (now out)) ⌝ }
+    ensures { λ r. ⌜ Wrote writes (spelled (each (serviceNumbers shape (now (words .entry))) (shape .count))) start (now (out .entry)) (now (out .exit)) r ⌝ }
+{
+    let count = shape.count;
+    let mut at = start;
+    let mut v = 0;
+    while v < count {
+        at = put_service(out, at, words, shape, GicVcpuId(v), writes);
+        v += 1;
+    }
+    at
+}
+
+fn put_privates(out: &mut [u8], start: usize, words: &[u32], shape: Shape, writes: bool) -> usize
+    requires { ⌜ (Sound shape (now words)) × (Fitting writes (each (λ v. each (privateNumbersAt shape (now words) v) 32) (shape .count)) start (now out)) ⌝ }
+    ensures { λ r. ⌜ Wrote writes (spelled (each (λ v. each (privateNumbersAt shape (now (words .entry)) v) 32) (shape .count))) start (now (out .entry)) (now (out .exit)) r ⌝ }
+{
+    let count = shape.count;
+    let mut at = start;
+    let mut v = 0;
+    while v < count {
+        at = put_own(out, at, words, shape, GicVcpuId(v), writes);
+        v += 1;
+    }
+    at
+}
+
+fn put_spis(out: &mut [u8], start: usize, words: &[u32], shape: Shape, writes: bool) -> usize
+    requires { ⌜ (Sound shape (now words)) × (Fitting writes (each (spiNumbersAt shape (now words)) (shape .limit - 32)) start (now out)) ⌝ }
+    ensures { λ r. ⌜ Wrote writes (spelled (each (spiNumbersAt shape (now (words .entry))) (shape .limit - 32))) start (now (out .entry)) (now (out .exit)) r ⌝ }
+{
+    let many = shape.limit - FIRST_SPI;
+    let mut at = start;
+    let mut i = 0;
+    while i < many {
+        at = put_spi(out, at, words, shape, IntId(FIRST_SPI + i), writes);
+        i += 1;
+    }
+    at
+}
+
+fn put_body(out: &mut [u8], start: usize, words: &[u32], shape: Shape, writes: bool) -> usize
     requires { ⌜ (Sound shape (now words)) × (Fitting writes (bodyNumbers shape (now words)) start (now out)) ⌝ }
     ensures { λ r. ⌜ Wrote writes (spelled (bodyNumbers shape (now (words .entry)))) start (now (out .entry)) (now (out .exit)) r ⌝ }
 {
-    let many = part_count(shape);
-    let mut at = start;
-    let mut k = 0;
-    while k < many {
-        at = put_part(out, at, words, shape, part_at(shape, k), writes);
-        k += 1;
-    }
-    at
+    let stacks = put_interfaces(out, start, words, shape, writes);
+    let privates = put_stacks(out, stacks, words, shape, writes);
+    let spis = put_privates(out, privates, words, shape, writes);
+    put_spis(out, spis, words, shape, writes)
 }
 
 // Without `writes` the buffer stays: what is answered is the length.
@@ -221,5 +270,5 @@ pub fn put_image(out: &mut [u8], words: &[u32], shape: Shape, writes: bool) -> u
 {
     let control = distributor_control(words, shape);
     let start = put_three(out, 0, shape.count as u32, shape.limit, control, writes);
-    put_parts(out, start, words, shape, writes)
+    put_body(out, start, words, shape, writes)
 }

@@ -18,8 +18,8 @@ put-three-requires c κs =
     let limits = start .pre .0 .state .limits in
     (omega arith, omega arith, omega arith, rw control (fits-first _ _ (start .pre .1)))
 
-put-parts-requires : tie.Need-put-parts-requires
-put-parts-requires c κs =
+put-body-requires : tie.Need-put-body-requires
+put-body-requires c κs =
     let start = c .before .before .before .before .before .before .before .before .before in
     let control = c .before .before .before .before .before .before .distributor-control .ensures in
     (start .pre .0, fits-next _ _ (start .pre .1) (rw control at (c .before .before .before .put-three .ensures)))
@@ -30,7 +30,7 @@ same-length c = search needs
 returns : tie.Need-returns
 returns c =
     let control = c .before .before .before .before .before .before .before .before .before .distributor-control .ensures in
-    wrote-more _ _ (rw control at (c .before .before .before .before .before .before .put-three .ensures)) (c .before .before .put-parts .ensures)
+    wrote-more _ _ (rw control at (c .before .before .before .before .before .before .put-three .ensures)) (c .before .before .put-body .ensures)
 
 pub put-image-spec : {M : Type 1} → statement M
 put-image-spec =
@@ -39,6 +39,6 @@ put-image-spec =
     distributor-control-requires
     cast-put-three
     put-three-requires
-    put-parts-requires
+    put-body-requires
     same-length
     returns)
