@@ -1,4 +1,4 @@
--- The numbers of an image by their parts, one after another: how save and load walk through it. A reader need not believe any of it:
+-- The numbers of an image by their parts, one after another: how load walks through it. A reader need not believe any of it:
 -- `body-by-parts` (proofs/ByParts.antt) says that these are the numbers of Image.antt.
 use mathlib.Core.Bool.{cond}
 use mathlib.Core.List.{List, [], _∷_}
