@@ -2,3 +2,5 @@
 pub mod Numbers
 pub mod Openings
 pub mod Walks
+pub mod Sections
+pub mod Spis

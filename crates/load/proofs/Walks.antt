@@ -15,11 +15,10 @@ use Rattle.state.specs.Layout.{Room}
 use Rattle.state.specs.Loop.{upTo}
 use Rattle.state.specs.Words.{withEntry, withoutEntry}
 use Rattle.state.proofs.Steps.{up-idle}
-use Rattle.image.specs.Parts.{partAt}
 use Rattle.load.specs.declared.reading.FoundEntry.the-variants as entry
 use Rattle.load.specs.declared.walking.Place.the-variants.{At, Refused}
 use Rattle.load.specs.Reading.{entryFound}
-use Rattle.load.specs.Walking.{spot, lost, entryIn, entrySpot, entryStored, entriesStored, clearedPast, partEnd, partStored, walked, stepStored}
+use Rattle.load.specs.Walking.{spot, lost, entryIn, entrySpot, entryStored, entriesStored, clearedPast, walked}
 
 pub cond-same : {X : Type 0} (b : Bool) (x : X) → cond b x x ≡ x
 cond-same true x = refl
@@ -33,6 +32,14 @@ stored-on false f w after x y start so-far e step = e ∙ so-far
 -- words of the same length have the same room
 pub still-room : (shape : Shape) (stores : Bool) (s r : List ℕ) → length r ≡ length s → (stores ≡ true → Room shape s) → stores ≡ true → Room shape r
 still-room shape stores s r same room e = let h = room e in let enough = h .room in record { limits = h .limits; room = omega arith }
+
+-- steps after steps
+pub up-plus : (f g : ℕ → List ℕ → List ℕ) (m n : ℕ) (s : List ℕ) → ((i : ℕ) (r : List ℕ) → f (m + i) r ≡ g i r) → upTo f (m + n) s ≡ upTo g n (upTo f m s)
+unfolding upTo
+up-plus f g m zero s same = let e : m + 0 ≡ m = omega arith in rw e
+up-plus f g m (suc n) s same =
+    let e : m + suc n ≡ suc (m + n) = omega arith in
+    rw e (same n (upTo f (m + n) s) ∙ ap (g n) (up-plus f g m n s same))
 
 -- what each step keeps holds from where it holds first
 onward : (P : ℕ → Type 0) → ((i : ℕ) → P i → P (suc i)) → (n m : ℕ) → m ≤ n → P m → P n
@@ -80,16 +87,3 @@ module _ (shape : Shape) (image : List ℕ) (start : ℕ) where
     entry-refused d b found =
         let gone : entrySpot shape image start (suc i) ≡ lost = simp (here, found) in
         (lost-stays (suc i) d b gone, last-step (λ j. entryStored shape v j (entryIn shape image (entrySpot shape image start j))) s i d b (λ j r a. simp (lost-stays (suc i) j a gone)) ∙ simp (here, found))
-
-  module _ (k at : ℕ) (s : List ℕ) (here : walked shape image start k ≡ At at) where
-    pub part-taken : (next : ℕ) → partEnd shape image (partAt shape k) at ≡ At next
-        → (walked shape image start (k + 1) ≡ At next) × (upTo (stepStored shape image start) (k + 1) s ≡ partStored shape image (partAt shape k) at (upTo (stepStored shape image start) k s))
-    unfolding walked upTo
-    part-taken next end = (rw add-one (simp (here, end)), rw add-one (simp here))
-
-    pub part-refused : (n : ℕ) → k < n → partEnd shape image (partAt shape k) at ≡ Refused
-        → (walked shape image start n ≡ Refused) × (upTo (stepStored shape image start) n s ≡ partStored shape image (partAt shape k) at (upTo (stepStored shape image start) k s))
-    unfolding walked
-    part-refused n b end =
-        let gone : walked shape image start (suc k) ≡ Refused = simp (here, end) in
-        (refused-stays (suc k) n b gone, last-step (stepStored shape image start) s k n b (λ j r a. simp (refused-stays (suc k) j a gone)) ∙ simp here)

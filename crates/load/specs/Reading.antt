@@ -1,9 +1,9 @@
 -- How an image is read, number by number: docs/IMAGE.md, "What is left out of a range is not an image", and of a lawful state what a part
 -- shows by itself. A reader need not believe any of it: crates/moving says that exactly the images of lawful states load, and as what.
-use mathlib.Core.Bool.{Bool, cond, _&&_}
+use mathlib.Core.Bool.{Bool, not, cond, _&&_}
 use mathlib.Core.List.{List}
-use Prim.Native.Nat.{ℕ, zero, suc}
-use lib.Dec.{eqb, leb}
+use Prim.Native.Nat.{ℕ, zero, suc, _%_, _^_}
+use lib.Dec.{eqb, leb, ltb}
 use Rattle.groups.specs.declared.Found.{Found}
 use Rattle.groups.specs.declared.Found.the-variants as found
 use Rattle.groups.specs.Groups.{foundAt}
@@ -105,6 +105,13 @@ lawfulNumber shape v n r x = recordLawful shape v n r && implied (isSgi (record 
 
 abbrev pub recordIfLawful : Shape → ℕ → ℕ → InterruptRecord → ℕ → ℕ → FoundRecord
 recordIfLawful shape v n r x next = cond (lawfulNumber shape v n r x) (records.Read r x next) records.Refused
+
+-- the same of an SPI's numbers: `spi-lawful` (proofs/Spis.antt)
+abbrev pub flightLawful : ℕ → ℕ → ℕ → Bool
+flightLawful f owner count = cond (eqb owner 0) (not (flag 3 f) && not (flag 4 f)) (flag 3 f && flag 2 f && leb owner count)
+
+abbrev pub spiLawful : Shape → ℕ → ℕ → ℕ → Bool
+spiLawful shape f owner mask = flightLawful f owner (shape .count) && ltb (mask % unsetMark) (2 ^ shape .count)
 
 abbrev pub thenRest : FoundRest → (Owner → CpuTargetMask → ℕ → ℕ → FoundRecord) → FoundRecord
 thenRest rest.Refused f = records.Refused

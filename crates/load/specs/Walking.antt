@@ -1,6 +1,7 @@
 -- How an image is walked through, part by part, and what is stored on the way. A reader need not believe any of it: see Reading.antt.
 use mathlib.Core.Bool.{Bool, cond}
 use mathlib.Core.List.{List}
+use mathlib.Core.Path.{_≡_}
 use lib.Dec.{leb}
 use Prim.Native.Nat.{ℕ, zero, suc, _+_, _-_}
 use Rattle.interrupt.specs.Types.{isSgi, idlePriority}
@@ -121,3 +122,10 @@ stepStored shape image start k s = thenPlace s (walked shape image start k) (λ 
 
 unfoldable pub partsStored : Shape → List ℕ → ℕ → List ℕ → List ℕ
 partsStored shape image start s = upTo (stepStored shape image start) (partCount shape) s
+
+-- what is done from a place on with `many` parts, of which the first is part `first`, whatever stands before them: where they end, and the
+-- words with them stored, or the words as they were
+pub record Section (shape : Shape) (image : List ℕ) (first many : ℕ) (stores : Bool) (at : ℕ) (before : List ℕ) (end : Place) (after : List ℕ) : Type 0 where
+  pub ends : (start : ℕ) → walked shape image start first ≡ At at → end ≡ walked shape image start (first + many)
+  pub stored : (start : ℕ) → walked shape image start first ≡ At at
+      → after ≡ cond stores (upTo (λ i. stepStored shape image start (first + i)) many before) before

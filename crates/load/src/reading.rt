@@ -1,9 +1,9 @@
 // The parts of an image as they are read: each number in its range, each part lawful by itself.
 ghost use mathlib.Core.Path.{_≡_};
-ghost use Prim.Native.Nat.{_≤_, _<_};
+ghost use Prim.Native.Nat.{ℕ, _≤_, _<_};
 ghost use Rattle.groups.specs.Groups.{foundAt};
 ghost use Rattle.state.specs.Layout.{Limits};
-ghost use Rattle.load.specs.Reading.{numberUpTo, registerFound, registersAt, entryFound, ownOwner, maskFrom, sgiRest, spiRest, restAt, recordFrom, lawfulNumber, recordIfLawful, recordFound};
+ghost use Rattle.load.specs.Reading.{numberUpTo, registerFound, registersAt, entryFound, ownOwner, maskFrom, sgiRest, restAt, recordFrom, lawfulNumber, recordIfLawful, flightLawful, spiLawful, recordFound};
 use groups::Found;
 use interrupt::CpuTargetMask;
 use interrupt::GicVcpuId;
@@ -42,7 +42,7 @@ pub enum FoundEntry {
     Refused,
 }
 
-// What follows a record's flags and priority.
+// What follows a private record's flags and priority.
 pub enum FoundRest {
     Read {
         owner: Owner,
@@ -152,6 +152,12 @@ pub fn entry_at(image: &[u8], at: usize, shape: Shape, above: Priority) -> Found
     }
 }
 
+fn flags_at(image: &[u8], at: usize) -> Found
+    ensures { λ r. ⌜ r ≡ numberUpTo 127 (now (image .entry)) at ⌝ }
+{
+    number_up_to(image, at, 127)
+}
+
 // A private record in flight is its own vCPU's.
 fn own_owner(vcpu: GicVcpuId, inflight: bool) -> Owner
     ensures { λ r. ⌜ r ≡ ownOwner (vcpu .0) inflight ⌝ }
@@ -188,43 +194,20 @@ fn sgi_rest(image: &[u8], at: usize, owner: Owner) -> FoundRest
     }
 }
 
-fn spi_rest(image: &[u8], at: usize) -> FoundRest
-    ensures { λ r. ⌜ r ≡ spiRest (now (image .entry)) at ⌝ }
-{
-    let Found::Number {
-        value: owner,
-        next: a,
-    } = number_up_to(image, at, 8)
-    else {
-        return FoundRest::Refused;
-    };
-    let Found::Number { value: mask, next } = number_up_to(image, a, UNSET) else {
-        return FoundRest::Refused;
-    };
-    FoundRest::Read {
-        owner: owner_of(owner as usize),
-        mask: mask_from(mask),
-        sources: 0,
-        next,
-    }
-}
-
 fn rest_at(image: &[u8], at: usize, vcpu: GicVcpuId, intid: IntId, inflight: bool) -> FoundRest
+    requires { ⌜ intid .0 < 32 ⌝ }
     ensures { λ r. ⌜ r ≡ restAt (vcpu .0) (intid .0) inflight (now (image .entry)) at ⌝ }
 {
     let owner = own_owner(vcpu, inflight);
     if intid.is_sgi() {
         return sgi_rest(image, at, owner);
     }
-    if intid.is_private() {
-        return FoundRest::Read {
-            owner,
-            mask: CpuTargetMask::Unset,
-            sources: 0,
-            next: at,
-        };
+    FoundRest::Read {
+        owner,
+        mask: CpuTargetMask::Unset,
+        sources: 0,
+        next: at,
     }
-    spi_rest(image, at)
 }
 
 fn record_from(flags: u32, priority: u8, owner: Owner, mask: CpuTargetMask) -> InterruptRecord
@@ -280,20 +263,20 @@ fn lawful_record(
     }
 }
 
-pub fn record_at(
+pub fn private_at(
     image: &[u8],
     at: usize,
     shape: Shape,
     vcpu: GicVcpuId,
     intid: IntId,
 ) -> FoundRecord
-    requires { ⌜ Limits shape ⌝ }
+    requires { ⌜ (Limits shape) × (intid .0 < 32) ⌝ }
     ensures { λ r. ⌜ r ≡ recordFound shape (vcpu .0) (intid .0) (now (image .entry)) at ⌝ }
 {
     let Found::Number {
         value: flags,
         next: a,
-    } = number_up_to(image, at, 127)
+    } = flags_at(image, at)
     else {
         return FoundRecord::Refused;
     };
@@ -315,4 +298,70 @@ pub fn record_at(
     };
     let record = record_from(flags, priority as u8, owner, mask);
     lawful_record(shape, vcpu, intid, record, sources, next)
+}
+
+// Of an SPI: nobody's if it is not in flight, with no redelivery noted; else active, and an existing vCPU's.
+fn flight_lawful(flags: u32, owner: u32, count: u32) -> bool
+    ensures { λ r. ⌜ r ≡ flightLawful flags owner count ⌝ }
+{
+    let active = flags / 4 % 2 == 1;
+    let inflight = flags / 8 % 2 == 1;
+    let noted = flags / 16 % 2 == 1;
+    if owner == 0 {
+        !inflight & !noted
+    } else {
+        inflight & active & (owner <= count)
+    }
+}
+
+// A mask that was never set passes as 0.
+fn spi_lawful(shape: Shape, flags: u32, owner: u32, mask: u32) -> bool
+    requires { ⌜ Limits shape ⌝ }
+    ensures { λ r. ⌜ r ≡ spiLawful shape flags owner mask ⌝ }
+{
+    flight_lawful(flags, owner, shape.count as u32) & (mask % UNSET < (1u32 << shape.count))
+}
+
+// Every SPI's record is read the same way.
+pub fn spi_at(image: &[u8], at: usize, shape: Shape) -> FoundRecord
+    requires { ⌜ Limits shape ⌝ }
+    ensures { λ r. ⌜ ((n : ℕ) → 32 ≤ n → r ≡ recordFound shape 0 n (now (image .entry)) at) ⌝ }
+{
+    let Found::Number {
+        value: flags,
+        next: a,
+    } = flags_at(image, at)
+    else {
+        return FoundRecord::Refused;
+    };
+    let Found::Number {
+        value: priority,
+        next: b,
+    } = number_up_to(image, a, 255)
+    else {
+        return FoundRecord::Refused;
+    };
+    let Found::Number {
+        value: owner,
+        next: c,
+    } = number_up_to(image, b, 8)
+    else {
+        return FoundRecord::Refused;
+    };
+    let Found::Number { value: mask, next } = number_up_to(image, c, UNSET) else {
+        return FoundRecord::Refused;
+    };
+    if !spi_lawful(shape, flags, owner, mask) {
+        return FoundRecord::Refused;
+    }
+    FoundRecord::Read {
+        record: record_from(
+            flags,
+            priority as u8,
+            owner_of(owner as usize),
+            mask_from(mask),
+        ),
+        sources: 0,
+        next,
+    }
 }

@@ -1,23 +1,21 @@
 // The walk through an image, part by part: taken twice, first to look and then to store.
 ghost use mathlib.Core.Path.{_≡_};
 ghost use mathlib.Core.Bool.{true, cond};
-ghost use Prim.Native.Nat.{_+_, _≤_, _<_};
+ghost use Prim.Native.Nat.{_+_, _-_, _*_, _≤_, _<_};
 ghost use Rattle.state.specs.Layout.{Limits, Room, stackCapacity};
 ghost use Rattle.state.specs.Words.{RecordThere, withEntry};
-ghost use Rattle.image.specs.Parts.{PartThere, partCount};
+ghost use Rattle.image.specs.Parts.{partCount};
 ghost use Rattle.load.specs.Reading.{registersAt, recordFound};
-ghost use Rattle.load.specs.Walking.{withRegisters, registersEnd, registersStored, withDepth, withInterrupt, entrySpot, spotEnd, entriesStored, clearedPast, clearedFrom, serviceEnd, serviceStored, recordEnd, recordStored, partEnd, partStored, walked, partsStored};
+ghost use Rattle.load.specs.Walking.{withRegisters, registersEnd, registersStored, withDepth, withInterrupt, entrySpot, spotEnd, entriesStored, clearedPast, clearedFrom, serviceEnd, serviceStored, recordEnd, recordStored, walked, partsStored, Section};
 use crate::reading::FoundEntry;
 use crate::reading::FoundRecord;
 use crate::reading::FoundRegisters;
 use crate::reading::entry_at;
 use crate::reading::number_up_to;
-use crate::reading::record_at;
+use crate::reading::private_at;
 use crate::reading::registers_at;
+use crate::reading::spi_at;
 use groups::Found;
-use image::Part;
-use image::part_at;
-use image::part_count;
 use interrupt::GicVcpuId;
 use interrupt::IntId;
 use interrupt::InterruptRecord;
@@ -25,6 +23,7 @@ use interrupt::Priority;
 use state::Entry;
 use state::InterfaceValue;
 use state::Shape;
+use state::layout::FIRST_SPI;
 use state::layout::STACK_CAPACITY;
 use state::words::clear_stack_entry;
 use state::words::put_interface_value;
@@ -190,7 +189,7 @@ fn store_record(
     }
 }
 
-fn take_record(
+fn take_private(
     image: &[u8],
     at: usize,
     words: &mut [u32],
@@ -199,14 +198,14 @@ fn take_record(
     intid: IntId,
     stores: bool,
 ) -> Place
-    requires { ⌜ (Limits shape) × ((stores ≡ true → Room shape (now words)) × (RecordThere shape (vcpu .0) (intid .0))) ⌝ }
+    requires { ⌜ (Limits shape) × ((stores ≡ true → Room shape (now words)) × ((vcpu .0 < shape .count) × (intid .0 < 32))) ⌝ }
     ensures { λ r. ⌜ (r ≡ recordEnd (recordFound shape (vcpu .0) (intid .0) (now (image .entry)) at)) × (now (words .exit) ≡ cond stores (recordStored shape (vcpu .0) (intid .0) (recordFound shape (vcpu .0) (intid .0) (now (image .entry)) at) (now (words .entry))) (now (words .entry))) ⌝ }
 {
     let FoundRecord::Read {
         record,
         sources,
         next,
-    } = record_at(image, at, shape, vcpu, intid)
+    } = private_at(image, at, shape, vcpu, intid)
     else {
         return Place::Refused;
     };
@@ -216,22 +215,131 @@ fn take_record(
     Place::At(next)
 }
 
-fn take_part(
+// The SPIs' records are met as the first vCPU's.
+fn take_spi(
     image: &[u8],
     at: usize,
     words: &mut [u32],
     shape: Shape,
-    part: Part,
+    intid: IntId,
     stores: bool,
 ) -> Place
-    requires { ⌜ (Limits shape) × ((stores ≡ true → Room shape (now words)) × (PartThere shape part)) ⌝ }
-    ensures { λ r. ⌜ (r ≡ partEnd shape (now (image .entry)) part at) × (now (words .exit) ≡ cond stores (partStored shape (now (image .entry)) part at (now (words .entry))) (now (words .entry))) ⌝ }
+    requires { ⌜ (Limits shape) × ((stores ≡ true → Room shape (now words)) × ((32 ≤ intid .0) × (intid .0 < shape .limit))) ⌝ }
+    ensures { λ r. ⌜ (r ≡ recordEnd (recordFound shape 0 (intid .0) (now (image .entry)) at)) × (now (words .exit) ≡ cond stores (recordStored shape 0 (intid .0) (recordFound shape 0 (intid .0) (now (image .entry)) at) (now (words .entry))) (now (words .entry))) ⌝ }
 {
-    match part {
-        Part::Registers(vcpu) => take_registers(image, at, words, shape, vcpu, stores),
-        Part::Service(vcpu) => take_service(image, at, words, shape, vcpu, stores),
-        Part::Interrupt(vcpu, intid) => take_record(image, at, words, shape, vcpu, intid, stores),
+    let FoundRecord::Read {
+        record,
+        sources: _,
+        next,
+    } = spi_at(image, at, shape)
+    else {
+        return Place::Refused;
+    };
+    if stores {
+        put_record(words, shape, GicVcpuId(0), intid, record);
     }
+    Place::At(next)
+}
+
+// Each vCPU's registers.
+fn take_interfaces(
+    image: &[u8],
+    start: usize,
+    words: &mut [u32],
+    shape: Shape,
+    stores: bool,
+) -> Place
+    requires { ⌜ (Limits shape) × (stores ≡ true → Room shape (now words)) ⌝ }
+    ensures { λ r. ⌜ Section shape (now (image .entry)) (0) (shape .count) stores start (now (words .entry)) r (now (words .exit)) ⌝ }
+{
+    let many = shape.count;
+    let mut at = start;
+    let mut v = 0;
+    while v < many {
+        let Place::At(next) = take_registers(image, at, words, shape, GicVcpuId(v), stores) else {
+            return Place::Refused;
+        };
+        at = next;
+        v += 1;
+    }
+    Place::At(at)
+}
+
+// Each vCPU's stack.
+fn take_stacks(image: &[u8], start: usize, words: &mut [u32], shape: Shape, stores: bool) -> Place
+    requires { ⌜ (Limits shape) × (stores ≡ true → Room shape (now words)) ⌝ }
+    ensures { λ r. ⌜ Section shape (now (image .entry)) (shape .count) (shape .count) stores start (now (words .entry)) r (now (words .exit)) ⌝ }
+{
+    let many = shape.count;
+    let mut at = start;
+    let mut v = 0;
+    while v < many {
+        let Place::At(next) = take_service(image, at, words, shape, GicVcpuId(v), stores) else {
+            return Place::Refused;
+        };
+        at = next;
+        v += 1;
+    }
+    Place::At(at)
+}
+
+// A vCPU's private records.
+fn take_own(
+    image: &[u8],
+    start: usize,
+    words: &mut [u32],
+    shape: Shape,
+    vcpu: GicVcpuId,
+    stores: bool,
+) -> Place
+    requires { ⌜ (Limits shape) × ((stores ≡ true → Room shape (now words)) × (vcpu .0 < shape .count)) ⌝ }
+    ensures { λ r. ⌜ Section shape (now (image .entry)) (2 * shape .count + 32 * vcpu .0) (32) stores start (now (words .entry)) r (now (words .exit)) ⌝ }
+{
+    let many = FIRST_SPI;
+    let mut at = start;
+    let mut n = 0;
+    while n < many {
+        let Place::At(next) = take_private(image, at, words, shape, vcpu, IntId(n), stores) else {
+            return Place::Refused;
+        };
+        at = next;
+        n += 1;
+    }
+    Place::At(at)
+}
+
+fn take_privates(image: &[u8], start: usize, words: &mut [u32], shape: Shape, stores: bool) -> Place
+    requires { ⌜ (Limits shape) × (stores ≡ true → Room shape (now words)) ⌝ }
+    ensures { λ r. ⌜ Section shape (now (image .entry)) (2 * shape .count) (32 * shape .count) stores start (now (words .entry)) r (now (words .exit)) ⌝ }
+{
+    let many = shape.count;
+    let mut at = start;
+    let mut v = 0;
+    while v < many {
+        let Place::At(next) = take_own(image, at, words, shape, GicVcpuId(v), stores) else {
+            return Place::Refused;
+        };
+        at = next;
+        v += 1;
+    }
+    Place::At(at)
+}
+
+fn take_spis(image: &[u8], start: usize, words: &mut [u32], shape: Shape, stores: bool) -> Place
+    requires { ⌜ (Limits shape) × (stores ≡ true → Room shape (now words)) ⌝ }
+    ensures { λ r. ⌜ Section shape (now (image .entry)) (34 * shape .count) (shape .limit - 32) stores start (now (words .entry)) r (now (words .exit)) ⌝ }
+{
+    let many = shape.limit - FIRST_SPI;
+    let mut at = start;
+    let mut i = 0;
+    while i < many {
+        let Place::At(next) = take_spi(image, at, words, shape, IntId(FIRST_SPI + i), stores) else {
+            return Place::Refused;
+        };
+        at = next;
+        i += 1;
+    }
+    Place::At(at)
 }
 
 // Without `stores` the words stay: the whole image is looked at before the first word is stored.
@@ -245,15 +353,14 @@ pub fn take_parts(
     requires { ⌜ (Limits shape) × (stores ≡ true → Room shape (now words)) ⌝ }
     ensures { λ r. ⌜ (r ≡ walked shape (now (image .entry)) start (partCount shape)) × (now (words .exit) ≡ cond stores (partsStored shape (now (image .entry)) start (now (words .entry))) (now (words .entry))) ⌝ }
 {
-    let many = part_count(shape);
-    let mut at = start;
-    let mut k = 0;
-    while k < many {
-        let Place::At(next) = take_part(image, at, words, shape, part_at(shape, k), stores) else {
-            return Place::Refused;
-        };
-        at = next;
-        k += 1;
-    }
-    Place::At(at)
+    let Place::At(a) = take_interfaces(image, start, words, shape, stores) else {
+        return Place::Refused;
+    };
+    let Place::At(b) = take_stacks(image, a, words, shape, stores) else {
+        return Place::Refused;
+    };
+    let Place::At(c) = take_privates(image, b, words, shape, stores) else {
+        return Place::Refused;
+    };
+    take_spis(image, c, words, shape, stores)
 }

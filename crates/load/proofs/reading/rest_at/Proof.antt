@@ -1,5 +1,6 @@
 -- `load::reading::rest_at` meets its contract. Assumes nothing.
 use borrow.Author.Needs.{needs}
+use borrow.Author.Tests.{lt-ltb}
 use Rattle.load.specs.Reading.{restAt}
 use Rattle.load.proofs.reading.rest_at.Statement.{statement}
 use Rattle.load.proofs.reading.rest_at.Tie as tie
@@ -17,19 +18,11 @@ returns : tie.Need-returns
 unfolding restAt
 returns c = simp (← c .before .before .is-sgi .ensures, c .before .if1 .taken, c .sgi-rest .ensures, c .before .before .before .own-owner .ensures)
 
-is-private-requires : tie.Need-is-private-requires
-is-private-requires c κs = search needs
-
 returns-2 : tie.Need-returns-2
 unfolding restAt
-returns-2 c = simp (← c .before .before .before .is-sgi .ensures, c .before .before .if1 .left, ← c .before .is-private .ensures, c .if2 .taken, c .before .before .before .before .own-owner .ensures)
-
-spi-rest-requires : tie.Need-spi-rest-requires
-spi-rest-requires c κs = search needs
-
-returns-3 : tie.Need-returns-3
-unfolding restAt
-returns-3 c = simp (← c .before .before .before .before .is-sgi .ensures, c .before .before .before .if1 .left, ← c .before .before .is-private .ensures, c .before .if2 .left, c .spi-rest .ensures)
+returns-2 c =
+    let start = c .before .before .before .before in
+    simp (← c .before .is-sgi .ensures, c .if1 .left, lt-ltb (start .args .intid .0) 32 (start .pre), c .before .before .own-owner .ensures)
 
 pub rest-at-spec : {M : Type 1} → statement M
 rest-at-spec =
@@ -39,7 +32,4 @@ rest-at-spec =
     is-sgi-requires
     sgi-rest-requires
     returns
-    is-private-requires
-    returns-2
-    spi-rest-requires
-    returns-3)
+    returns-2)

@@ -1,104 +1,123 @@
--- `load::walking::take_parts` meets its contract. Assumes nothing.
-use mathlib.Core.Bool.{cond}
-use mathlib.Core.Path.{_≡_, refl, sym, _∙_}
-use Prim.Native.Nat.{_-_, _≤_}
+-- `load::walking::take_parts` meets its contract: one section behind another. Assumes nothing.
+use mathlib.Core.Path.{refl}
+use Prim.Native.Nat.{_+_, _-_, _*_}
 use native.Mathlib.Omega.{arith}
-use lib.ListN.{length}
+use Rattle.image.specs.Parts.{partCount}
+use Rattle.load.proofs.Walks.{still-room}
+use Rattle.load.proofs.Sections.{section-stopped, section-next, section-whole}
 use borrow.Author.Needs.{needs}
-use Rattle.state.specs.Loop.{upTo}
-use Rattle.image.specs.Parts.{partAt, partCount}
-use Rattle.load.specs.Walking.{partStored, walked, stepStored, partsStored}
-use Rattle.load.specs.declared.walking.Place.the-variants.{At}
-use Rattle.load.proofs.Walks.{cond-same, stored-on, still-room, part-taken, part-refused}
 use Rattle.load.proofs.walking.take_parts.Statement.{statement}
 use Rattle.load.proofs.walking.take_parts.Tie as tie
 
-abbrev Inv-loop : tie.InvT-loop
-Inv-loop image start words₀ shape stores many at₀ k₀ words at k = (k ≤ many) × ((length words ≡ length words₀) × ((walked shape image start k ≡ At at) × (words ≡ cond stores (upTo (stepStored shape image start) k words₀) words₀)))
+take-interfaces-requires : tie.Need-take-interfaces-requires
+take-interfaces-requires c κs = search needs
 
-abbrev μ-loop : tie.MeasureT-loop
-μ-loop image start words₀ shape stores many at₀ k₀ words at k = many - k
+enum-known-a : tie.Need-enum-known-a
+enum-known-a c = search needs
 
-part-count-requires : tie.Need-part-count-requires Inv-loop μ-loop
-part-count-requires c κs = search needs
-
-loop-holds : tie.Need-loop-holds Inv-loop μ-loop
-unfolding walked upTo
-loop-holds c = (search needs, (refl, (refl, sym (cond-same (c .before .before .before .args .stores) _))))
-
-part-at-requires : tie.Need-part-at-requires Inv-loop μ-loop
-part-at-requires c κs = search needs
-
-take-part-requires : tie.Need-take-part-requires Inv-loop μ-loop
-take-part-requires c κs =
-    let l = c .before .before .before .loop in
-    let start = c .before .before .before .before .before .before .before in
-    let a = start .args in
-    (start .pre .0, (still-room (a .shape) (a .stores) (a .words .now) (l .words) (l .inv .1 .0) (start .pre .1), c .part-at .ensures .1))
-
-enum-known-next : tie.Need-enum-known-next Inv-loop μ-loop
-enum-known-next c = search needs
-
-enum-told : tie.Need-enum-told Inv-loop μ-loop
+enum-told : tie.Need-enum-told
 enum-told c = search needs
 
-same-length : tie.Need-same-length Inv-loop μ-loop
+same-length : tie.Need-same-length
 same-length c = search needs
 
-returns : tie.Need-returns Inv-loop μ-loop
-unfolding partsStored
+returns : tie.Need-returns
 returns c =
-    let step = c .before .before .before .before in
-    let turn = step .before .before .before .before in
-    let l = turn .loop in
-    let a = turn .before .before .before .before .args in
-    let part = simp (step .before .part-at .ensures .0) at (step .take-part .ensures) in
-    let gone = part-refused (a .shape) (a .image .now) (a .start) (l .k) (l .at) (a .words .now) (l .inv .1 .1 .0) (partCount (a .shape)) (omega (arith, turn .before .part-count .ensures)) (sym (part .0) ∙ c .enum-told .given .1) in
-    (simp (gone .0), stored-on (a .stores) (partStored (a .shape) (a .image .now) (partAt (a .shape) (l .k)) (l .at)) _ _ _ _ _ (l .inv .1 .1 .1) (part .1) (gone .1))
+    let one = c .before .before .before .before in
+    let a = one .before .before .before .before .args in
+    let count = a .shape .count in
+    section-whole (a .shape) (a .image .now) (a .stores) (partCount (a .shape)) (a .start) (a .words .now) _ _ refl (section-stopped (a .shape) (a .image .now) (a .stores) 0 (count) (partCount (a .shape)) (a .start) (a .words .now) _ (omega arith) (rw (c .enum-told .given .1) at (one .take-interfaces .ensures)))
 
-add-k : tie.Need-add-k Inv-loop μ-loop
-add-k c = search needs
+take-stacks-requires : tie.Need-take-stacks-requires
+take-stacks-requires c κs =
+    let start = c .before .before .before .before .before .before .before .before .before .before in
+    let a = start .args in
+    (start .pre .0, still-room (a .shape) (a .stores) (a .words .now) _ (search needs) (start .pre .1))
 
-loop-less : tie.Need-loop-less Inv-loop μ-loop
-loop-less c = search needs
+enum-known-b : tie.Need-enum-known-b
+enum-known-b c = search needs
 
-loop-again : tie.Need-loop-again Inv-loop μ-loop
-loop-again c =
-    let step = c .before .before .before .before .before in
-    let turn = step .before .before .before .before in
-    let l = turn .loop in
-    let a = turn .before .before .before .before .args in
-    let next = c .before .next .given in
-    let part = simp (step .before .part-at .ensures .0) at (step .take-part .ensures) in
-    let taken = part-taken (a .shape) (a .image .now) (a .start) (l .k) (l .at) (a .words .now) (l .inv .1 .1 .0) (next .0 .0) (sym (part .0) ∙ next .1) in
-    (search needs, (search needs, (taken .0, stored-on (a .stores) (partStored (a .shape) (a .image .now) (partAt (a .shape) (l .k)) (l .at)) _ _ _ _ _ (l .inv .1 .1 .1) (part .1) (taken .1))))
+enum-told-2 : tie.Need-enum-told-2
+enum-told-2 c = search needs
 
-same-length-2 : tie.Need-same-length-2 Inv-loop μ-loop
+same-length-2 : tie.Need-same-length-2
 same-length-2 c = search needs
 
-returns-2 : tie.Need-returns-2 Inv-loop μ-loop
-unfolding partsStored
+returns-2 : tie.Need-returns-2
 returns-2 c =
-    let l = c .before .loop in
-    let e : l .k ≡ partCount (c .before .before .before .before .before .args .shape) = omega (arith, c .before .before .part-count .ensures) in
-    rw (← e) (sym (l .inv .1 .1 .0), l .inv .1 .1 .1)
+    let two = c .before .before .before .before in
+    let one = two .before .before .before .before .before .before .before in
+    let a = one .before .before .before .before .args in
+    let count = a .shape .count in
+    let so-far = section-next (a .shape) (a .image .now) (a .stores) count count count (a .start) (a .words .now) _ _ _ _ (omega arith) (rw (two .before .before .before .a .given .1) at (one .take-interfaces .ensures)) (rw (c .enum-told2 .given .1) at (two .take-stacks .ensures)) in
+    section-whole (a .shape) (a .image .now) (a .stores) (partCount (a .shape)) (a .start) (a .words .now) _ _ refl (section-stopped (a .shape) (a .image .now) (a .stores) 0 (count + count) (partCount (a .shape)) (a .start) (a .words .now) _ (omega arith) so-far)
+
+take-privates-requires : tie.Need-take-privates-requires
+take-privates-requires c κs =
+    let start = c .before .before .before .before .before .before .before .before .before .before .before .before .before .before .before .before .before in
+    let a = start .args in
+    (start .pre .0, still-room (a .shape) (a .stores) (a .words .now) _ (search needs) (start .pre .1))
+
+enum-known-c : tie.Need-enum-known-c
+enum-known-c c = search needs
+
+enum-told-3 : tie.Need-enum-told-3
+enum-told-3 c = search needs
+
+same-length-3 : tie.Need-same-length-3
+same-length-3 c = search needs
+
+returns-3 : tie.Need-returns-3
+returns-3 c =
+    let three = c .before .before .before .before in
+    let two = three .before .before .before .before .before .before .before in
+    let one = two .before .before .before .before .before .before .before in
+    let a = one .before .before .before .before .args in
+    let count = a .shape .count in
+    let so-far = section-next (a .shape) (a .image .now) (a .stores) count count count (a .start) (a .words .now) _ _ _ _ (omega arith) (rw (two .before .before .before .a .given .1) at (one .take-interfaces .ensures)) (rw (three .before .before .before .b .given .1) at (two .take-stacks .ensures)) in
+    let privates = section-next (a .shape) (a .image .now) (a .stores) (count + count) (2 * count) (32 * count) (a .start) (a .words .now) _ _ _ _ (omega arith) so-far (rw (c .enum-told3 .given .1) at (three .take-privates .ensures)) in
+    section-whole (a .shape) (a .image .now) (a .stores) (partCount (a .shape)) (a .start) (a .words .now) _ _ refl (section-stopped (a .shape) (a .image .now) (a .stores) 0 (count + count + 32 * count) (partCount (a .shape)) (a .start) (a .words .now) _ (omega arith) privates)
+
+take-spis-requires : tie.Need-take-spis-requires
+take-spis-requires c κs =
+    let start = c .before .before .before .before .before .before .before .before .before .before .before .before .before .before .before .before .before .before .before .before .before .before .before .before in
+    let a = start .args in
+    (start .pre .0, still-room (a .shape) (a .stores) (a .words .now) _ (search needs) (start .pre .1))
+
+same-length-4 : tie.Need-same-length-4
+same-length-4 c = search needs
+
+returns-4 : tie.Need-returns-4
+returns-4 c =
+    let four = c .before .before in
+    let three = four .before .before .before .before .before .before .before in
+    let two = three .before .before .before .before .before .before .before in
+    let one = two .before .before .before .before .before .before .before in
+    let a = one .before .before .before .before .args in
+    let count = a .shape .count in
+    let so-far = section-next (a .shape) (a .image .now) (a .stores) count count count (a .start) (a .words .now) _ _ _ _ (omega arith) (rw (two .before .before .before .a .given .1) at (one .take-interfaces .ensures)) (rw (three .before .before .before .b .given .1) at (two .take-stacks .ensures)) in
+    let privates = section-next (a .shape) (a .image .now) (a .stores) (count + count) (2 * count) (32 * count) (a .start) (a .words .now) _ _ _ _ (omega arith) so-far (rw (four .before .before .before .c .given .1) at (three .take-privates .ensures)) in
+    section-whole (a .shape) (a .image .now) (a .stores) (count + count + 32 * count + (a .shape .limit - 32)) (a .start) (a .words .now) _ _ (omega arith) (section-next (a .shape) (a .image .now) (a .stores) (count + count + 32 * count) (34 * count) (a .shape .limit - 32) (a .start) (a .words .now) _ _ _ _ (omega arith) privates (four .take-spis .ensures))
 
 pub take-parts-spec : {M : Type 1} → statement M
 take-parts-spec =
     tie.close
     (tie.spec
-    Inv-loop
-    μ-loop
-    part-count-requires
-    loop-holds
-    part-at-requires
-    take-part-requires
-    enum-known-next
+    take-interfaces-requires
+    enum-known-a
     enum-told
     same-length
     returns
-    add-k
-    loop-less
-    loop-again
+    take-stacks-requires
+    enum-known-b
+    enum-told-2
     same-length-2
-    returns-2)
+    returns-2
+    take-privates-requires
+    enum-known-c
+    enum-told-3
+    same-length-3
+    returns-3
+    take-spis-requires
+    same-length-4
+    returns-4)
