@@ -6,16 +6,18 @@ use Prim.Native.Nat.{ℕ, _-_, _%_, _^_, _≤_, _<_}
 use native.Mathlib.Omega.{arith}
 use lib.Pow.{pow-pos}
 use lib.Dec.{eqb, leb, ltb}
-use borrow.Author.Tests.{lt-ltb, le-ltb, ltb-true, ltb-false, le-leb, lt-leb, eqb-true, eqb-false}
+use borrow.Author.Tests.{lt-ltb, le-ltb, ltb-true, ltb-false, le-leb, lt-leb, leb-false, eqb-true, eqb-false, ne-eqb}
 use Rattle.interrupt.specs.declared.record.CpuTargetMask.the-variants.{Unset, Mask}
 use Rattle.interrupt.specs.declared.record.Owner.the-variants.{Nobody, Vcpu}
 use Rattle.word.specs.Word.{flag, ownerOf}
 use Rattle.state.specs.declared.layout.Shape.{Shape}
 use Rattle.lawful_test.specs.LawfulTest.{implied, ownerLawful, maskLawful, recordLawful}
 use Rattle.groups.specs.declared.Found.the-variants.{Number}
+use Rattle.groups.specs.declared.Found.the-variants as found
+use Rattle.groups.specs.Groups.{foundAt}
 use Rattle.load.specs.declared.reading.FoundRecord.the-variants.{Read, Refused}
 use Rattle.load.specs.Reading.{numberUpTo, maskFrom, spiRest, restAt, recordFrom, spiLawful, recordFound}
-use Rattle.load.proofs.Numbers.{within}
+use Rattle.load.proofs.Numbers.{within, small-found}
 
 -- the vCPU that an owner's number is of is below the count
 below : (o count : ℕ) → (o ≡ 0 → ⊥) → ltb (o - 1) count ≡ leb o count
@@ -66,6 +68,14 @@ module _ (shape : Shape) (n : ℕ) (high : 32 ≤ n) where
           let same : m % 256 ≡ m = omega arith in
           simp (le-ltb n 32 high, same)
 
+  no-such : (f o m : ℕ) → leb o (shape .count) ≡ false → 0 < o → spiLawful shape f o m ≡ false
+  no-such f o m past some = simp (ne-eqb o 0 (λ e. omega arith), past) (go (flag 3 f) (flag 2 f))
+    where
+      go : (x y : Bool) → (x && y && false) && ltb (m % 256) (2 ^ shape .count) ≡ false
+      go true true = refl
+      go true false = refl
+      go false y = refl
+
   -- an SPI has no source set to test
   spi-lawful : (f p o m : ℕ) → m ≤ 256 → recordLawful shape 0 n (recordFrom f p (ownerOf o) (maskFrom m)) && true ≡ spiLawful shape f o m
   unfolding recordLawful
@@ -79,11 +89,38 @@ module _ (shape : Shape) (n : ℕ) (high : 32 ≤ n) where
           simp (le-ltb n 32 high, below o (shape .count) (eqb-false o 0 e))
           (all (flag 2 f) (flag 3 f) (flag 4 f) (ltb (m % 256) (2 ^ shape .count)) (leb o (shape .count)))
 
-  -- what its four numbers say of it
-  pub spi-read : (image : List ℕ) (at f a p b o c m next : ℕ) → numberUpTo 127 image at ≡ Number f a → numberUpTo 255 image a ≡ Number p b → numberUpTo 8 image b ≡ Number o c
-      → numberUpTo 256 image c ≡ Number m next → recordFound shape 0 n image at ≡ cond (spiLawful shape f o m) (Read (recordFrom f p (ownerOf o) (maskFrom m)) 0 next) Refused
-  unfolding recordFound restAt spiRest
-  spi-read image at f a p b o c m next flags priority owner mask =
-      let small = within 256 image c (numberUpTo 256 image c) m next refl mask in
-      simp (flags, priority, le-ltb n 16 (omega arith), le-ltb n 32 high, owner, mask)
-      (ap (λ (x : Bool). cond x (Read (recordFrom f p (ownerOf o) (maskFrom m)) 0 next) Refused) (spi-lawful f p o m small))
+  -- what is found at one number after another: an owner above 8 is none, and it is no lawful one either
+  module _ (image : List ℕ) (at f a p b : ℕ) (flags : numberUpTo 127 image at ≡ Number f a) (priority : numberUpTo 255 image a ≡ Number p b) where
+    no-owner : numberUpTo 8 image b ≡ found.Refused → recordFound shape 0 n image at ≡ Refused
+    unfolding recordFound restAt spiRest
+    no-owner owner = simp (flags, priority, le-ltb n 16 (omega arith), le-ltb n 32 high, owner)
+
+    pub spi-no-owner : foundAt 1 image b ≡ found.Refused → recordFound shape 0 n image at ≡ Refused
+    spi-no-owner owner = no-owner (small-found 8 image b (omega arith) ∙ simp owner)
+
+    module _ (o c : ℕ) (owner : foundAt 1 image b ≡ Number o c) where
+      pub spi-no-mask : numberUpTo 256 image c ≡ found.Refused → recordFound shape 0 n image at ≡ Refused
+      unfolding recordFound restAt spiRest
+      spi-no-mask mask = go (leb o 8) refl
+        where
+          go : (x : Bool) → leb o 8 ≡ x → recordFound shape 0 n image at ≡ Refused
+          go true e =
+              let own : numberUpTo 8 image b ≡ Number o c = small-found 8 image b (omega arith) ∙ simp (owner, e) in
+              simp (flags, priority, le-ltb n 16 (omega arith), le-ltb n 32 high, own, mask)
+          go false e = no-owner (small-found 8 image b (omega arith) ∙ simp (owner, e))
+
+      pub spi-read : (m next : ℕ) → shape .count ≤ 8 → numberUpTo 256 image c ≡ Number m next
+          → recordFound shape 0 n image at ≡ cond (spiLawful shape f o m) (Read (recordFrom f p (ownerOf o) (maskFrom m)) 0 next) Refused
+      unfolding recordFound restAt spiRest
+      spi-read m next few mask = go (leb o 8) refl
+        where
+          go : (x : Bool) → leb o 8 ≡ x → recordFound shape 0 n image at ≡ cond (spiLawful shape f o m) (Read (recordFrom f p (ownerOf o) (maskFrom m)) 0 next) Refused
+          go true e =
+              let own : numberUpTo 8 image b ≡ Number o c = small-found 8 image b (omega arith) ∙ simp (owner, e) in
+              let small = within 256 image c (numberUpTo 256 image c) m next refl mask in
+              simp (flags, priority, le-ltb n 16 (omega arith), le-ltb n 32 high, own, mask)
+              (ap (λ (x : Bool). cond x (Read (recordFrom f p (ownerOf o) (maskFrom m)) 0 next) Refused) (spi-lawful f p o m small))
+          go false e =
+              let big = leb-false o 8 e in
+              let off : spiLawful shape f o m ≡ false = no-such f o m (lt-leb o (shape .count) (omega arith)) (omega arith) in
+              no-owner (small-found 8 image b (omega arith) ∙ simp (owner, e)) ∙ simp off

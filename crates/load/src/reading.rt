@@ -152,10 +152,11 @@ pub fn entry_at(image: &[u8], at: usize, shape: Shape, above: Priority) -> Found
     }
 }
 
+// What has one group is below 128.
 fn flags_at(image: &[u8], at: usize) -> Found
     ensures { λ r. ⌜ r ≡ numberUpTo 127 (now (image .entry)) at ⌝ }
 {
-    number_up_to(image, at, 127)
+    read(image, at, 1)
 }
 
 // A private record in flight is its own vCPU's.
@@ -344,7 +345,7 @@ pub fn spi_at(image: &[u8], at: usize, shape: Shape) -> FoundRecord
     let Found::Number {
         value: owner,
         next: c,
-    } = number_up_to(image, b, 8)
+    } = read(image, b, 1)
     else {
         return FoundRecord::Refused;
     };
