@@ -331,13 +331,13 @@ fn take_spis(image: &[u8], start: usize, words: &mut [u32], shape: Shape, stores
 {
     let many = shape.limit - FIRST_SPI;
     let mut at = start;
-    let mut i = 0;
-    while i < many {
-        let Place::At(next) = take_spi(image, at, words, shape, IntId(FIRST_SPI + i), stores) else {
+    let mut k = 0;
+    while k < many {
+        let Place::At(next) = take_spi(image, at, words, shape, IntId(FIRST_SPI + k), stores) else {
             return Place::Refused;
         };
         at = next;
-        i += 1;
+        k += 1;
     }
     Place::At(at)
 }

@@ -13,10 +13,10 @@ use Rattle.load.proofs.walking.take_spis.Statement.{statement}
 use Rattle.load.proofs.walking.take_spis.Tie as tie
 
 abbrev Inv-loop : tie.InvT-loop
-Inv-loop image start words₀ shape stores many at₀ i₀ words at i = (i ≤ many) × ((length words ≡ length words₀) × Section shape image (34 * shape .count) i stores start words₀ (At at) words)
+Inv-loop image start words₀ shape stores many at₀ k₀ words at k = (k ≤ many) × ((length words ≡ length words₀) × Section shape image (34 * shape .count) k stores start words₀ (At at) words)
 
 abbrev μ-loop : tie.MeasureT-loop
-μ-loop image start words₀ shape stores many at₀ i₀ words at i = many - i
+μ-loop image start words₀ shape stores many at₀ k₀ words at k = many - k
 
 sub-many : tie.Need-sub-many Inv-loop μ-loop
 sub-many c = search needs
@@ -50,11 +50,11 @@ returns c =
     let l = turn .loop in
     let start = turn .before .before .before .before in
     let a = start .args in
-    let part = section-part (a .shape) (a .image .now) (a .stores) (34 * a .shape .count + l .i) (l .at) (l .words) (Refused) _ (Interrupt (record { 0 = 0 }) (record { 0 = 32 + l .i })) (spi-part (a .shape) (l .i)) (sym (c .enum-told .given .1) ∙ step .take-spi .ensures .0) (step .take-spi .ensures .1) in
-    section-refused (a .shape) (a .image .now) (a .stores) (34 * a .shape .count) (l .i) 1 (a .shape .limit - 32) (a .start) (a .words .now) (l .at) (l .words) _ (omega arith) (l .inv .1 .1) part
+    let part = section-part (a .shape) (a .image .now) (a .stores) (34 * a .shape .count + l .k) (l .at) (l .words) (Refused) _ (Interrupt (record { 0 = 0 }) (record { 0 = 32 + l .k })) (spi-part (a .shape) (l .k)) (sym (c .enum-told .given .1) ∙ step .take-spi .ensures .0) (step .take-spi .ensures .1) in
+    section-refused (a .shape) (a .image .now) (a .stores) (34 * a .shape .count) (l .k) 1 (a .shape .limit - 32) (a .start) (a .words .now) (l .at) (l .words) _ (omega arith) (l .inv .1 .1) part
 
-add-i : tie.Need-add-i Inv-loop μ-loop
-add-i c = search needs
+add-k : tie.Need-add-k Inv-loop μ-loop
+add-k c = search needs
 
 loop-less : tie.Need-loop-less Inv-loop μ-loop
 loop-less c = search needs
@@ -67,8 +67,8 @@ loop-again c =
     let start = turn .before .before .before .before in
     let a = start .args in
     let next = c .before .next .given in
-    let part = section-part (a .shape) (a .image .now) (a .stores) (34 * a .shape .count + l .i) (l .at) (l .words) (At (next .0 .0)) _ (Interrupt (record { 0 = 0 }) (record { 0 = 32 + l .i })) (spi-part (a .shape) (l .i)) (sym (next .1) ∙ step .take-spi .ensures .0) (step .take-spi .ensures .1) in
-    (search needs, (search needs, section-then (a .shape) (a .image .now) (a .stores) (34 * a .shape .count) (l .i) 1 (a .start) (a .words .now) (l .at) (l .words) _ _ (l .inv .1 .1) part))
+    let part = section-part (a .shape) (a .image .now) (a .stores) (34 * a .shape .count + l .k) (l .at) (l .words) (At (next .0 .0)) _ (Interrupt (record { 0 = 0 }) (record { 0 = 32 + l .k })) (spi-part (a .shape) (l .k)) (sym (next .1) ∙ step .take-spi .ensures .0) (step .take-spi .ensures .1) in
+    (search needs, (search needs, section-then (a .shape) (a .image .now) (a .stores) (34 * a .shape .count) (l .k) 1 (a .start) (a .words .now) (l .at) (l .words) _ _ (l .inv .1 .1) part))
 
 same-length-2 : tie.Need-same-length-2 Inv-loop μ-loop
 same-length-2 c = search needs
@@ -77,7 +77,7 @@ returns-2 : tie.Need-returns-2 Inv-loop μ-loop
 returns-2 c =
     let l = c .before .loop in
     let a = c .before .before .before .before .before .args in
-    let e : l .i ≡ a .shape .limit - 32 = omega arith in
+    let e : l .k ≡ a .shape .limit - 32 = omega arith in
     rw e at (l .inv .1 .1)
 
 pub take-spis-spec : {M : Type 1} → statement M
@@ -94,7 +94,7 @@ take-spis-spec =
     enum-told
     same-length
     returns
-    add-i
+    add-k
     loop-less
     loop-again
     same-length-2
