@@ -1,5 +1,5 @@
 -- What is quiet passes: of a word that is, only its mask counts, and of an SGI's its trigger and line. Assumes nothing.
-use mathlib.Core.Path.{_≡_, refl, sym, _∙_}
+use mathlib.Core.Path.{_≡_, refl}
 use mathlib.Core.Bool.{Bool, true, false, _&&_, and-true}
 use mathlib.Core.List.{List}
 use Prim.Native.Nat.{ℕ, _/_, _%_, _^_, _≤_, _<_}

@@ -93,8 +93,7 @@ pub fn sources_lawful(sources: u8, pending: bool) -> bool
     if pending { sources != 0 } else { sources == 0 }
 }
 
-// Told by few instructions: neither in flight nor with a redelivery noted, and above its priority nothing from `bound` up, so nobody's. Most
-// records of a state are quiet.
+// Most records are quiet, and pass by few instructions: not in flight, none noted, and nothing from `bound` up above the priority.
 fn is_quiet(word: u32, bound: u32) -> bool
     ensures { λ r. ⌜ r ≡ quiet bound word ⌝ }
 {

@@ -1,3 +1,4 @@
+-- `save::walking::flags_number` meets its contract. Assumes nothing.
 use mathlib.Core.Bool.{Bool, not}
 use mathlib.Core.Path.{ap, _∙_}
 use native.Mathlib.Omega.{arith}
@@ -7,87 +8,66 @@ use Rattle.word.specs.Word.{bitOf}
 use Rattle.save.proofs.walking.flags_number.Statement.{statement}
 use Rattle.save.proofs.walking.flags_number.Tie as tie
 
--- src/walking.rt:40:5
 bit-requires : tie.Need-bit-requires
 bit-requires c κs = search needs
 
--- src/walking.rt:41:15
 bit-requires-2 : tie.Need-bit-requires-2
 bit-requires-2 c κs = search needs
 
--- src/walking.rt:41:11
 mul-result : tie.Need-mul-result
 mul-result c = search needs
 
--- src/walking.rt:40:5
 add-result : tie.Need-add-result
 add-result c = search needs
 
--- src/walking.rt:42:15
 bit-requires-3 : tie.Need-bit-requires-3
 bit-requires-3 c κs = search needs
 
--- src/walking.rt:42:11
 mul-result-2 : tie.Need-mul-result-2
 mul-result-2 c = search needs
 
--- src/walking.rt:40:5
 add-result-2 : tie.Need-add-result-2
 add-result-2 c = search needs
 
--- src/walking.rt:43:15
 bit-requires-4 : tie.Need-bit-requires-4
 bit-requires-4 c κs = search needs
 
--- src/walking.rt:43:11
 mul-result-3 : tie.Need-mul-result-3
 mul-result-3 c = search needs
 
--- src/walking.rt:40:5
 add-result-3 : tie.Need-add-result-3
 add-result-3 c = search needs
 
--- src/walking.rt:44:16
 bit-requires-5 : tie.Need-bit-requires-5
 bit-requires-5 c κs = search needs
 
--- src/walking.rt:44:11
 mul-result-4 : tie.Need-mul-result-4
 mul-result-4 c = search needs
 
--- src/walking.rt:40:5
 add-result-4 : tie.Need-add-result-4
 add-result-4 c = search needs
 
--- src/walking.rt:45:16
 bit-requires-6 : tie.Need-bit-requires-6
 bit-requires-6 c κs = search needs
 
--- src/walking.rt:45:11
 mul-result-5 : tie.Need-mul-result-5
 mul-result-5 c = search needs
 
--- src/walking.rt:40:5
 add-result-5 : tie.Need-add-result-5
 add-result-5 c = search needs
 
--- src/walking.rt:46:21
 is-level-requires : tie.Need-is-level-requires
 is-level-requires c κs = search needs
 
--- src/walking.rt:46:16
 bit-requires-7 : tie.Need-bit-requires-7
 bit-requires-7 c κs = search needs
 
--- src/walking.rt:46:11
 mul-result-6 : tie.Need-mul-result-6
 mul-result-6 c = search needs
 
--- src/walking.rt:40:5
 add-result-6 : tie.Need-add-result-6
 add-result-6 c = search needs
 
--- src/walking.rt:36:1
 returns : tie.Need-returns
 unfolding flagsNumber
 returns c =
