@@ -8,9 +8,15 @@ use Rattle.interrupt.specs.Types.{isPrivateId}
 use Rattle.state.specs.declared.layout.Shape.{Shape}
 use Rattle.state.specs.Words.{recordAt, sourcesAt, RecordThere}
 use Rattle.interrupt.specs.declared.record.InterruptRecord.{InterruptRecord}
-use Rattle.image.specs.declared.Part.{Part}
-use Rattle.image.specs.declared.Part.the-variants.{Registers, Service, Interrupt}
+use Rattle.interrupt.specs.declared.types.GicVcpuId.{GicVcpuId}
+use Rattle.interrupt.specs.declared.types.IntId.{IntId}
 use Rattle.image.specs.Image.{interfaceNumbers, serviceNumbers, privateNumbers, spiNumbers}
+
+-- a vCPU's registers, a vCPU's stack, or a record as a vCPU meets it; the SPIs' are met as the first vCPU's
+pub data Part : Type 0 where
+  Registers : GicVcpuId → Part
+  Service : GicVcpuId → Part
+  Interrupt : GicVcpuId → IntId → Part
 
 -- each vCPU's registers, each vCPU's stack, each vCPU's 32 private records, the SPIs
 abbrev pub partCount : Shape → ℕ

@@ -8,8 +8,8 @@ use native.Mathlib.Omega.{arith}
 use Rattle.state.specs.declared.layout.Shape.{Shape}
 use Rattle.state.specs.Loop.{upTo}
 use Rattle.state.proofs.Steps.{up-idle}
-use Rattle.image.specs.declared.Part.{Part}
-use Rattle.image.specs.declared.Part.the-variants.{Registers, Service, Interrupt}
+use Rattle.image.specs.Parts.{Part}
+use Rattle.image.specs.Parts.{Registers, Service, Interrupt}
 use Rattle.image.specs.Parts.{partAt, partCount}
 use Rattle.image.proofs.Cases.{part-registers, part-service, part-private, part-spi}
 use Rattle.load.specs.declared.walking.Place.{Place}

@@ -17,7 +17,7 @@ use Rattle.state.proofs.Tests.{every-at, every-true}
 use Rattle.service.specs.Service.{depthAt, stackTo, runningOf}
 use Rattle.lawful_test.specs.LawfulTest.{entryLawful, entryLawfulAt, stackLawful}
 use Rattle.image.specs.Image.{each, entryNumbers, serviceNumbers}
-use Rattle.image.specs.declared.Part.the-variants.{Service}
+use Rattle.image.specs.Parts.{Service}
 use Rattle.load.specs.declared.reading.FoundEntry.{FoundEntry}
 use Rattle.load.specs.declared.reading.FoundEntry.the-variants.{Read, Refused}
 use Rattle.load.specs.declared.walking.Place.the-variants.{At}

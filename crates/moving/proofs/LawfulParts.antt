@@ -11,8 +11,8 @@ use Rattle.state.proofs.Tests.{every-true}
 use Rattle.lawful.specs.Lawful.{Lawful}
 use Rattle.lawful_test.specs.LawfulTest.{numberLawful, stackLawful, vcpuLawful, isLawful}
 use Rattle.lawful_test.proofs.Passing.{both-true, number-passes, stack-passes, passes-lawful}
-use Rattle.image.specs.declared.Part.{Part}
-use Rattle.image.specs.declared.Part.the-variants.{Registers, Service, Interrupt}
+use Rattle.image.specs.Parts.{Part}
+use Rattle.image.specs.Parts.{Registers, Service, Interrupt}
 use Rattle.image.specs.Parts.{partCount, partAt, PartThere}
 use Rattle.moving.specs.Reads.{LawfulPart}
 use Rattle.moving.proofs.StoredPlaces.{index-service, index-private, index-spi, part-stands}

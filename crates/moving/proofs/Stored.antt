@@ -18,8 +18,8 @@ use Rattle.state.specs.Words.{wordAt, put, recordSlot, keptDistributorControl, 
 use Rattle.state.proofs.Accessors.{put-length, put-room, put-same, put-other, put-past}
 use Rattle.state.proofs.SlotKinds.{kinds-apart}
 use Rattle.state.proofs.Steps.{slots, Agree, steps-own, steps-others}
-use Rattle.image.specs.declared.Part.{Part}
-use Rattle.image.specs.declared.Part.the-variants.{Registers, Service, Interrupt}
+use Rattle.image.specs.Parts.{Part}
+use Rattle.image.specs.Parts.{Registers, Service, Interrupt}
 use Rattle.image.specs.Parts.{partAt, partCount}
 use Rattle.image.proofs.Cases.{part-registers}
 use Rattle.load.specs.declared.walking.Place.{Place}

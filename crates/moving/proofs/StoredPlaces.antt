@@ -10,8 +10,8 @@ use Rattle.state.specs.declared.layout.Shape.{Shape}
 use Rattle.state.specs.declared.layout.InterfaceValue.the-variants.{Control, PriorityMask, BinaryPoint, Depth}
 use Rattle.state.specs.Layout.{Slot, Count, Limit, DistributorControl, Interface, Sources, Private, Spi, Stack, Limits}
 use Rattle.state.specs.Words.{recordSlot}
-use Rattle.image.specs.declared.Part.{Part}
-use Rattle.image.specs.declared.Part.the-variants.{Registers, Service, Interrupt}
+use Rattle.image.specs.Parts.{Part}
+use Rattle.image.specs.Parts.{Registers, Service, Interrupt}
 use Rattle.image.specs.Parts.{partCount, partAt, PartThere}
 use Rattle.image.proofs.Cases.{part-service, part-private, part-spi}
 

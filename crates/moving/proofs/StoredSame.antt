@@ -16,8 +16,8 @@ use Rattle.state.specs.Lent.{HoldsState}
 use Rattle.state.specs.Words.{wordAt, recordSlot, distributorControlAt, entryWord, rewritten, Canonical}
 use Rattle.state.proofs.Equal.{canonical-equal}
 use Rattle.service.specs.Service.{depthAt}
-use Rattle.image.specs.declared.Part.{Part}
-use Rattle.image.specs.declared.Part.the-variants.{Registers, Service, Interrupt}
+use Rattle.image.specs.Parts.{Part}
+use Rattle.image.specs.Parts.{Registers, Service, Interrupt}
 use Rattle.image.specs.Parts.{partAt, partCount}
 use Rattle.image.proofs.Cases.{part-registers}
 use Rattle.moving.specs.Means.{InUse}

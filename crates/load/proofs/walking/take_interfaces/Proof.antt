@@ -4,7 +4,7 @@ use Prim.Native.Nat.{_+_, _-_, _≤_}
 use native.Mathlib.Omega.{arith}
 use lib.ListN.{length}
 use borrow.Author.Needs.{needs}
-use Rattle.image.specs.declared.Part.the-variants.{Registers}
+use Rattle.image.specs.Parts.{Registers}
 use Rattle.load.specs.declared.walking.Place.the-variants.{At, Refused}
 use Rattle.load.specs.Walking.{Section}
 use Rattle.load.proofs.Walks.{still-room}
