@@ -106,15 +106,12 @@ lawfulNumber shape v n r x = recordLawful shape v n r && implied (isSgi (record 
 abbrev pub recordIfLawful : Shape → ℕ → ℕ → InterruptRecord → ℕ → ℕ → FoundRecord
 recordIfLawful shape v n r x next = cond (lawfulNumber shape v n r x) (records.Read r x next) records.Refused
 
--- the same of an SPI's numbers: `spi-read` (proofs/Spis.antt)
+-- the same of an SPI's numbers: `spi-lawful` (proofs/Spis.antt)
 abbrev pub flightLawful : ℕ → ℕ → ℕ → Bool
 flightLawful f owner count = cond (eqb owner 0) (not (flag 3 f) && not (flag 4 f)) (flag 3 f && flag 2 f && leb owner count)
 
 abbrev pub spiLawful : Shape → ℕ → ℕ → ℕ → Bool
 spiLawful shape f owner mask = flightLawful f owner (shape .count) && ltb (mask % unsetMark) (2 ^ shape .count)
-
-abbrev pub spiIfLawful : Shape → ℕ → ℕ → ℕ → ℕ → ℕ → FoundRecord
-spiIfLawful shape f p owner mask next = cond (spiLawful shape f owner mask) (records.Read (recordFrom f p (ownerOf owner) (maskFrom mask)) 0 next) records.Refused
 
 abbrev pub thenRest : FoundRest → (Owner → CpuTargetMask → ℕ → ℕ → FoundRecord) → FoundRecord
 thenRest rest.Refused f = records.Refused

@@ -3,7 +3,7 @@ ghost use mathlib.Core.Path.{_≡_};
 ghost use Prim.Native.Nat.{ℕ, _≤_, _<_};
 ghost use Rattle.groups.specs.Groups.{foundAt};
 ghost use Rattle.state.specs.Layout.{Limits};
-ghost use Rattle.load.specs.Reading.{numberUpTo, registerFound, registersAt, entryFound, ownOwner, maskFrom, sgiRest, restAt, recordFrom, lawfulNumber, recordIfLawful, flightLawful, spiLawful, spiIfLawful, recordFound};
+ghost use Rattle.load.specs.Reading.{numberUpTo, registerFound, registersAt, entryFound, ownOwner, maskFrom, sgiRest, restAt, recordFrom, lawfulNumber, recordIfLawful, flightLawful, spiLawful, recordFound};
 use groups::Found;
 use interrupt::CpuTargetMask;
 use interrupt::GicVcpuId;
@@ -323,28 +323,7 @@ fn spi_lawful(shape: Shape, flags: u32, owner: u32, mask: u32) -> bool
     flight_lawful(flags, owner, shape.count as u32) & (mask % UNSET < (1u32 << shape.count))
 }
 
-fn lawful_spi(
-    shape: Shape,
-    flags: u32,
-    priority: u8,
-    owner: u32,
-    mask: u32,
-    next: usize,
-) -> FoundRecord
-    requires { ⌜ (Limits shape) × (mask ≤ 256) ⌝ }
-    ensures { λ r. ⌜ r ≡ spiIfLawful shape flags priority owner mask next ⌝ }
-{
-    if !spi_lawful(shape, flags, owner, mask) {
-        return FoundRecord::Refused;
-    }
-    FoundRecord::Read {
-        record: record_from(flags, priority, owner_of(owner as usize), mask_from(mask)),
-        sources: 0,
-        next,
-    }
-}
-
-// Every SPI's record is read the same way. An owner above 8 is told by the count.
+// Every SPI's record is read the same way.
 pub fn spi_at(image: &[u8], at: usize, shape: Shape) -> FoundRecord
     requires { ⌜ Limits shape ⌝ }
     ensures { λ r. ⌜ ((n : ℕ) → 32 ≤ n → r ≡ recordFound shape 0 n (now (image .entry)) at) ⌝ }
@@ -373,5 +352,17 @@ pub fn spi_at(image: &[u8], at: usize, shape: Shape) -> FoundRecord
     let Found::Number { value: mask, next } = number_up_to(image, c, UNSET) else {
         return FoundRecord::Refused;
     };
-    lawful_spi(shape, flags, priority as u8, owner, mask, next)
+    if !spi_lawful(shape, flags, owner, mask) {
+        return FoundRecord::Refused;
+    }
+    FoundRecord::Read {
+        record: record_from(
+            flags,
+            priority as u8,
+            owner_of(owner as usize),
+            mask_from(mask),
+        ),
+        sources: 0,
+        next,
+    }
 }

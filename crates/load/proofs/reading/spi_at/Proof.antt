@@ -1,6 +1,7 @@
 -- `load::reading::spi_at` meets its contract. Assumes nothing.
 use mathlib.Core.Path.{sym, _∙_}
 use native.Mathlib.Omega.{arith}
+use borrow.Author.Tests.{not-true, not-false}
 use Rattle.load.specs.Reading.{recordFound}
 use Rattle.load.proofs.Numbers.{within}
 use Rattle.load.proofs.Spis.{spi-no-owner, spi-no-mask, spi-read}
@@ -69,26 +70,50 @@ returns-4 c n high =
     let a = first .before .before .before .before .args in
     sym (spi-no-mask (a .shape) n high (a .image .now) (a .at) _ _ _ _ (sym (first .before .before .flags-at .ensures) ∙ first .flags .given .1) (sym (second .before .before .number-up-to .ensures) ∙ second .priority .given .1) _ _ (sym (third .before .before .read .ensures) ∙ third .owner .given .1) (sym (c .before .before .number-up-to2 .ensures) ∙ c .enum-told4 .given .1))
 
-cast-lawful-spi : tie.Need-cast-lawful-spi
-cast-lawful-spi c =
-    let second = c .before .before .before .before .before .before .before .before .before in
-    omega (arith, within 255 _ _ _ _ _ (second .before .before .number-up-to .ensures) (second .priority .given .1))
-
-lawful-spi-requires : tie.Need-lawful-spi-requires
-lawful-spi-requires c κs =
-    let fourth = c .before in
-    (c .before .before .before .before .before .before .before .before .before .before .before .before .before .before .before .before .before .pre, within 256 _ _ _ _ _ (fourth .before .before .number-up-to2 .ensures) (fourth .mask .given .1))
+spi-lawful-requires : tie.Need-spi-lawful-requires
+spi-lawful-requires c κs = search needs
 
 returns-5 : tie.Need-returns-5
 returns-5 c n high =
-    let fourth = c .before .before in
+    let fourth = c .before .before .before in
     let third = fourth .before .before .before .before in
     let second = third .before .before .before .before in
     let first = second .before .before .before .before in
     let start = first .before .before .before .before in
     let a = start .args in
-    c .lawful-spi .ensures
-    ∙ sym (spi-read (a .shape) n high (a .image .now) (a .at) _ _ _ _ (sym (first .before .before .flags-at .ensures) ∙ first .flags .given .1) (sym (second .before .before .number-up-to .ensures) ∙ second .priority .given .1) _ _ (sym (third .before .before .read .ensures) ∙ third .owner .given .1) _ _ (start .pre .few-vcpus) (sym (fourth .before .before .number-up-to2 .ensures) ∙ fourth .mask .given .1))
+    let read = spi-read (a .shape) n high (a .image .now) (a .at) _ _ _ _ (sym (first .before .before .flags-at .ensures) ∙ first .flags .given .1) (sym (second .before .before .number-up-to .ensures) ∙ second .priority .given .1) _ _ (sym (third .before .before .read .ensures) ∙ third .owner .given .1) _ _ (start .pre .few-vcpus) (sym (fourth .before .before .number-up-to2 .ensures) ∙ fourth .mask .given .1) in
+    sym (read ∙ simp (sym (c .before .spi-lawful .ensures) ∙ not-true (c .before .spi-lawful .result) (c .if1 .taken)))
+
+cast-record-from : tie.Need-cast-record-from
+cast-record-from c =
+    let second = c .before .before .before .before .before .before .before .before .before .before .before in
+    omega (arith, within 255 _ _ _ _ _ (second .before .before .number-up-to .ensures) (second .priority .given .1))
+
+cast-owner-of : tie.Need-cast-owner-of
+cast-owner-of c = search needs
+
+owner-of-requires : tie.Need-owner-of-requires
+owner-of-requires c κs = search needs
+
+mask-from-requires : tie.Need-mask-from-requires
+mask-from-requires c κs =
+    let fourth = c .before .before .before .before in
+    within 256 _ _ _ _ _ (fourth .before .before .number-up-to2 .ensures) (fourth .mask .given .1)
+
+record-from-requires : tie.Need-record-from-requires
+record-from-requires c κs = search needs
+
+returns-6 : tie.Need-returns-6
+returns-6 c n high =
+    let fourth = c .before .before .before .before .before .before in
+    let third = fourth .before .before .before .before in
+    let second = third .before .before .before .before in
+    let first = second .before .before .before .before in
+    let start = first .before .before .before .before in
+    let a = start .args in
+    let read = spi-read (a .shape) n high (a .image .now) (a .at) _ _ _ _ (sym (first .before .before .flags-at .ensures) ∙ first .flags .given .1) (sym (second .before .before .number-up-to .ensures) ∙ second .priority .given .1) _ _ (sym (third .before .before .read .ensures) ∙ third .owner .given .1) _ _ (start .pre .few-vcpus) (sym (fourth .before .before .number-up-to2 .ensures) ∙ fourth .mask .given .1) in
+    let passed = c .before .before .before in
+    sym (read ∙ simp (sym (passed .before .spi-lawful .ensures) ∙ not-false (passed .before .spi-lawful .result) (passed .if1 .left), c .record-from .ensures, c .before .mask-from .ensures, c .before .before .owner-of .ensures))
 
 pub spi-at-spec : {M : Type 1} → statement M
 spi-at-spec =
@@ -110,6 +135,11 @@ spi-at-spec =
     enum-known-mask
     enum-told-4
     returns-4
-    cast-lawful-spi
-    lawful-spi-requires
-    returns-5)
+    spi-lawful-requires
+    returns-5
+    cast-record-from
+    cast-owner-of
+    owner-of-requires
+    mask-from-requires
+    record-from-requires
+    returns-6)
