@@ -27,32 +27,33 @@ below o count some = go (ltb (o - 1) count) refl
     go true p = let h = ltb-true (o - 1) count p in sym (le-leb o count (omega arith))
     go false p = let h = ltb-false (o - 1) count p in sym (lt-leb o count (omega arith))
 
-all : (active inflight noted mask : Bool) (owner : Bool)
+-- the tests of a record in some vCPU's hands, and of one in nobody's, are those of its numbers
+charged : (active inflight noted mask : Bool) (owner : Bool)
     → (implied inflight active && implied noted inflight && (inflight && owner) && mask && true) && true ≡ (inflight && active && owner) && mask
-all true true true true true = refl
-all true true true true false = refl
-all true true true false true = refl
-all true true true false false = refl
-all true true false true true = refl
-all true true false true false = refl
-all true true false false true = refl
-all true true false false false = refl
-all true false true mask owner = refl
-all true false false mask owner = refl
-all false true noted mask owner = refl
-all false false true mask owner = refl
-all false false false mask owner = refl
+charged true true true true true = refl
+charged true true true true false = refl
+charged true true true false true = refl
+charged true true true false false = refl
+charged true true false true true = refl
+charged true true false true false = refl
+charged true true false false true = refl
+charged true true false false false = refl
+charged true false true mask owner = refl
+charged true false false mask owner = refl
+charged false true noted mask owner = refl
+charged false false true mask owner = refl
+charged false false false mask owner = refl
 
-none : (active inflight noted mask : Bool) → (implied inflight active && implied noted inflight && not inflight && mask && true) && true ≡ (not inflight && not noted) && mask
-none true true true mask = refl
-none true true false mask = refl
-none true false true mask = refl
-none true false false true = refl
-none true false false false = refl
-none false true noted mask = refl
-none false false true mask = refl
-none false false false true = refl
-none false false false false = refl
+idle : (active inflight noted mask : Bool) → (implied inflight active && implied noted inflight && not inflight && mask && true) && true ≡ (not inflight && not noted) && mask
+idle true true true mask = refl
+idle true true false mask = refl
+idle true false true mask = refl
+idle true false false true = refl
+idle true false false false = refl
+idle false true noted mask = refl
+idle false false true mask = refl
+idle false false false true = refl
+idle false false false false = refl
 
 module _ (shape : Shape) (n : ℕ) (high : 32 ≤ n) where
   mask-lawful : (m : ℕ) → m ≤ 256 → maskLawful shape n (maskFrom m) ≡ ltb (m % 256) (2 ^ shape .count)
@@ -84,10 +85,10 @@ module _ (shape : Shape) (n : ℕ) (high : 32 ≤ n) where
       go : (b : Bool) → eqb o 0 ≡ b
           → (implied (flag 3 f) (flag 2 f) && implied (flag 4 f) (flag 3 f) && ownerLawful shape 0 n (flag 3 f) (cond b Nobody (Vcpu (record { 0 = o - 1 }))) && ltb (m % 256) (2 ^ shape .count) && true) && true
           ≡ cond b (not (flag 3 f) && not (flag 4 f)) (flag 3 f && flag 2 f && leb o (shape .count)) && ltb (m % 256) (2 ^ shape .count)
-      go true e = none (flag 2 f) (flag 3 f) (flag 4 f) (ltb (m % 256) (2 ^ shape .count))
+      go true e = idle (flag 2 f) (flag 3 f) (flag 4 f) (ltb (m % 256) (2 ^ shape .count))
       go false e =
           simp (le-ltb n 32 high, below o (shape .count) (eqb-false o 0 e))
-          (all (flag 2 f) (flag 3 f) (flag 4 f) (ltb (m % 256) (2 ^ shape .count)) (leb o (shape .count)))
+          (charged (flag 2 f) (flag 3 f) (flag 4 f) (ltb (m % 256) (2 ^ shape .count)) (leb o (shape .count)))
 
   -- what is found at one number after another: an owner above 8 is none, and it is no lawful one either
   module _ (image : List ℕ) (at f a p b : ℕ) (flags : numberUpTo 127 image at ≡ Number f a) (priority : numberUpTo 255 image a ≡ Number p b) where

@@ -106,7 +106,7 @@ lawfulNumber shape v n r x = recordLawful shape v n r && implied (isSgi (record 
 abbrev pub recordIfLawful : Shape → ℕ → ℕ → InterruptRecord → ℕ → ℕ → FoundRecord
 recordIfLawful shape v n r x next = cond (lawfulNumber shape v n r x) (records.Read r x next) records.Refused
 
--- the same of an SPI's numbers: `spi-lawful` (proofs/Spis.antt)
+-- the same of an SPI's numbers: `spi-read` (proofs/Spis.antt)
 abbrev pub flightLawful : ℕ → ℕ → ℕ → Bool
 flightLawful f owner count = cond (eqb owner 0) (not (flag 3 f) && not (flag 4 f)) (flag 3 f && flag 2 f && leb owner count)
 

@@ -323,7 +323,7 @@ fn spi_lawful(shape: Shape, flags: u32, owner: u32, mask: u32) -> bool
     flight_lawful(flags, owner, shape.count as u32) & (mask % UNSET < (1u32 << shape.count))
 }
 
-// Every SPI's record is read the same way.
+// Every SPI's record is read the same way. An owner above 8 is told by the count.
 pub fn spi_at(image: &[u8], at: usize, shape: Shape) -> FoundRecord
     requires { ⌜ Limits shape ⌝ }
     ensures { λ r. ⌜ ((n : ℕ) → 32 ≤ n → r ≡ recordFound shape 0 n (now (image .entry)) at) ⌝ }
@@ -355,13 +355,9 @@ pub fn spi_at(image: &[u8], at: usize, shape: Shape) -> FoundRecord
     if !spi_lawful(shape, flags, owner, mask) {
         return FoundRecord::Refused;
     }
+    let server = owner_of(owner as usize);
     FoundRecord::Read {
-        record: record_from(
-            flags,
-            priority as u8,
-            owner_of(owner as usize),
-            mask_from(mask),
-        ),
+        record: record_from(flags, priority as u8, server, mask_from(mask)),
         sources: 0,
         next,
     }

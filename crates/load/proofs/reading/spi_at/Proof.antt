@@ -84,16 +84,16 @@ returns-5 c n high =
     let read = spi-read (a .shape) n high (a .image .now) (a .at) _ _ _ _ (sym (first .before .before .flags-at .ensures) ∙ first .flags .given .1) (sym (second .before .before .number-up-to .ensures) ∙ second .priority .given .1) _ _ (sym (third .before .before .read .ensures) ∙ third .owner .given .1) _ _ (start .pre .few-vcpus) (sym (fourth .before .before .number-up-to2 .ensures) ∙ fourth .mask .given .1) in
     sym (read ∙ simp (sym (c .before .spi-lawful .ensures) ∙ not-true (c .before .spi-lawful .result) (c .if1 .taken)))
 
-cast-record-from : tie.Need-cast-record-from
-cast-record-from c =
-    let second = c .before .before .before .before .before .before .before .before .before .before .before in
-    omega (arith, within 255 _ _ _ _ _ (second .before .before .number-up-to .ensures) (second .priority .given .1))
-
 cast-owner-of : tie.Need-cast-owner-of
 cast-owner-of c = search needs
 
 owner-of-requires : tie.Need-owner-of-requires
 owner-of-requires c κs = search needs
+
+cast-record-from : tie.Need-cast-record-from
+cast-record-from c =
+    let second = c .before .before .before .before .before .before .before .before .before .before .before .before in
+    omega (arith, within 255 _ _ _ _ _ (second .before .before .number-up-to .ensures) (second .priority .given .1))
 
 mask-from-requires : tie.Need-mask-from-requires
 mask-from-requires c κs =
@@ -137,9 +137,9 @@ spi-at-spec =
     returns-4
     spi-lawful-requires
     returns-5
-    cast-record-from
     cast-owner-of
     owner-of-requires
+    cast-record-from
     mask-from-requires
     record-from-requires
     returns-6)
