@@ -20,7 +20,7 @@ use Rattle.cpu_interface_frame.specs.CpuInterfaceFrame.{readV2CpuInterface, wri
 use Rattle.input.specs.Input.{deviceLevel, devicePulse, SetLevelPromise, PulsePromise}
 use Rattle.look.specs.Look.{irqLevel, interruptWord, IrqLevelPromise, InterruptWordPromise}
 use Rattle.save.specs.Save.{Saved, save, SavePromise}
-use Rattle.load.specs.Load.{load, LoadPromise}
+use Rattle.load.specs.Load.{load, LoadPromise, shapeStated, ImageShapePromise}
 
 -- a refusal is known by its number, and no number is 0
 numbered : (r q : Refusal) → refusalNumber r ≡ refusalNumber q → r ≡ q
@@ -110,6 +110,9 @@ interrupt-word-one v n s = one (interruptWord v n s)
 
 pub load-one : (bytes s : List ℕ) → AdmitsOne (LoadPromise bytes s)
 load-one bytes s = one (load bytes s)
+
+pub image-shape-one : (bytes : List ℕ) → AdmitsOne (ImageShapePromise bytes)
+image-shape-one bytes = one (shapeStated bytes)
 
 -- a save's promise speaks of the buffer too: one answer with one list of words, and one buffer
 pub save-one : (s buffer : List ℕ) → AdmitsOne {A = Answer × List ℕ} (λ o written. SavePromise s buffer (o .0) (o .1) written)

@@ -26,6 +26,9 @@ unfoldable pub spelled : List ℕ → List ℕ
 spelled [] = []
 spelled (n ∷ ns) = groups n ++ spelled ns
 
+-- How numbers are read and written. A reader need not believe what follows: `found-reads` and `found-exact` (proofs/Reading.antt) say that a
+-- number is found at a place exactly if its bytes stand there.
+
 -- a group below what is found after it: a 0 there is a group too many ("`80 00` is no number")
 abbrev pub withGroup : ℕ → Found → Found
 withGroup group (Number above next) = cond (eqb above 0) Refused (Number (group + 128 * above) next)

@@ -2,16 +2,13 @@
 use mathlib.Core.Path.{_≡_, refl, sym, ap, _∙_}
 use mathlib.Core.Bool.{Bool, true, false, cond}
 use mathlib.Core.List.{List}
-use Prim.Native.Nat.{ℕ, zero, suc, _+_, _-_, _*_, _/_, _%_, _≤_, _<_}
+use Prim.Native.Nat.{ℕ, _+_, _≤_}
 use native.Mathlib.Numerals.{add-one}
 use native.Mathlib.Omega.{arith}
 use Rattle.state.specs.declared.layout.Shape.{Shape}
 use Rattle.state.specs.Loop.{upTo}
 use Rattle.state.proofs.Steps.{up-idle}
-use Rattle.image.specs.Parts.{Part}
-use Rattle.image.specs.Parts.{Registers, Service, Interrupt}
-use Rattle.image.specs.Parts.{partAt, partCount}
-use Rattle.image.proofs.Cases.{part-registers, part-service, part-private, part-spi}
+use Rattle.image.specs.Parts.{Part, partAt, partCount}
 use Rattle.load.specs.declared.walking.Place.{Place}
 use Rattle.load.specs.declared.walking.Place.the-variants.{At, Refused}
 use Rattle.load.specs.Walking.{partEnd, partStored, walked, stepStored, partsStored, Section}
@@ -82,24 +79,3 @@ module _ (shape : Shape) (image : List ℕ) (stores : Bool) where
       let e : 0 + m ≡ partCount shape = omega arith in
       let same = up-plus (stepStored shape image start) (λ i. stepStored shape image start (0 + i)) 0 m s (λ i r. refl) in
       (rw e at (all .ends start refl), all .stored start refl ∙ ap (λ (w : List ℕ). cond stores w s) (sym (rw e at same)))
-
--- which part is which, counted from its section's first
-module _ (shape : Shape) where
-  pub registers-part : (v : ℕ) → v < shape .count → partAt shape (0 + v) ≡ Registers (record { 0 = v })
-  registers-part v b = let z : 0 + v ≡ v = omega arith in rw z (part-registers shape v b)
-
-  pub service-part : (v : ℕ) → v < shape .count → partAt shape (shape .count + v) ≡ Service (record { 0 = v })
-  service-part v b =
-      let same : shape .count + v - shape .count ≡ v = omega arith in
-      part-service shape (shape .count + v) (omega arith) (omega arith) ∙ rw same
-
-  pub private-part : (v n : ℕ) → v < shape .count → n < 32 → partAt shape (2 * shape .count + 32 * v + n) ≡ Interrupt (record { 0 = v }) (record { 0 = n })
-  private-part v n b low =
-      let q : (2 * shape .count + 32 * v + n - 2 * shape .count) / 32 ≡ v = omega arith in
-      let m : (2 * shape .count + 32 * v + n - 2 * shape .count) % 32 ≡ n = omega arith in
-      part-private shape (2 * shape .count + 32 * v + n) (omega arith) (omega arith) ∙ rw (q, m)
-
-  pub spi-part : (i : ℕ) → partAt shape (34 * shape .count + i) ≡ Interrupt (record { 0 = 0 }) (record { 0 = 32 + i })
-  spi-part i =
-      let same : 34 * shape .count + i - 34 * shape .count + 32 ≡ 32 + i = omega arith in
-      part-spi shape (34 * shape .count + i) (omega arith) ∙ rw same

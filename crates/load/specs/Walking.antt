@@ -11,9 +11,7 @@ use Rattle.state.specs.declared.layout.InterfaceValue.the-variants.{Control, Pr
 use Rattle.state.specs.Layout.{stackCapacity}
 use Rattle.state.specs.Loop.{upTo}
 use Rattle.state.specs.Words.{withRecord, withSources, withInterface, withEntry, withoutEntry}
-use Rattle.image.specs.Parts.{Part}
-use Rattle.image.specs.Parts.{Registers, Service, Interrupt}
-use Rattle.image.specs.Parts.{partAt, partCount}
+use Rattle.image.specs.Parts.{Part, Registers, Service, Interrupt, partAt, partCount}
 use Rattle.load.specs.declared.reading.FoundRegisters.{FoundRegisters}
 use Rattle.load.specs.declared.reading.FoundRegisters.the-variants as registers
 use Rattle.load.specs.declared.reading.FoundEntry.{FoundEntry}

@@ -22,10 +22,8 @@ use Rattle.state.proofs.Tests.{left-true}
 use Rattle.lawful.specs.Lawful.{Charged}
 use Rattle.lawful_test.specs.LawfulTest.{implied, recordLawful, sourcesLawful, numberLawful}
 use Rattle.lawful_test.proofs.Passing.{Passed, passes-record}
-use Rattle.image.specs.Parts.{Part}
-use Rattle.image.specs.Parts.{Registers, Service, Interrupt}
+use Rattle.image.specs.Parts.{Part, Registers, Service, Interrupt, interruptNumbers, partNumbers, PartThere}
 use Rattle.image.specs.Image.{ownerNumber, recordNumbers}
-use Rattle.image.specs.Parts.{interruptNumbers, partNumbers, PartThere}
 use Rattle.load.specs.declared.reading.FoundRegisters.{FoundRegisters}
 use Rattle.load.specs.declared.reading.FoundRegisters.the-variants as registers
 use Rattle.load.specs.declared.reading.FoundRecord.{FoundRecord}

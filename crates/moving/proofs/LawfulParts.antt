@@ -11,11 +11,10 @@ use Rattle.state.proofs.Tests.{every-true}
 use Rattle.lawful.specs.Lawful.{Lawful}
 use Rattle.lawful_test.specs.LawfulTest.{numberLawful, stackLawful, vcpuLawful, isLawful}
 use Rattle.lawful_test.proofs.Passing.{both-true, number-passes, stack-passes, passes-lawful}
-use Rattle.image.specs.Parts.{Part}
-use Rattle.image.specs.Parts.{Registers, Service, Interrupt}
-use Rattle.image.specs.Parts.{partCount, partAt, PartThere}
+use Rattle.image.specs.Parts.{Part, Registers, Service, Interrupt, partCount, partAt, PartThere}
+use Rattle.image.proofs.Cases.{service-part, private-part}
 use Rattle.moving.specs.Reads.{LawfulPart}
-use Rattle.moving.proofs.StoredPlaces.{index-service, index-private, index-spi, part-stands}
+use Rattle.moving.proofs.StoredPlaces.{index-spi, part-stands}
 
 module _ (shape : Shape) (s : List ℕ) where
   lawful-part : Lawful shape s → (p : Part) → PartThere shape p → LawfulPart shape s p
@@ -28,10 +27,10 @@ module _ (shape : Shape) (s : List ℕ) where
 
   module _ (h : HoldsState shape s) (each : (k : ℕ) → k < partCount shape → LawfulPart shape s (partAt shape k)) where
     stack-lawful : (v : ℕ) → v < shape .count → stackLawful shape v s ≡ true
-    stack-lawful v b = (rw (index-service shape v b) at (each (shape .count + v) (omega arith))) .1
+    stack-lawful v b = (rw (service-part shape v b) at (each (shape .count + v) (omega arith))) .1
 
     private-lawful : (v n : ℕ) → v < shape .count → n < 32 → numberLawful shape v s n ≡ true
-    private-lawful v n b low = rw (index-private shape v n b low) at (each (2 * shape .count + 32 * v + n) (omega arith))
+    private-lawful v n b low = rw (private-part shape v n b low) at (each (2 * shape .count + 32 * v + n) (omega arith))
 
     spi-lawful : (k : ℕ) → k < shape .limit - 32 → numberLawful shape 0 s (32 + k) ≡ true
     spi-lawful k b = rw (index-spi shape (32 + k) (omega arith)) at (each (34 * shape .count + (32 + k - 32)) (omega arith))

@@ -16,10 +16,8 @@ use Rattle.state.specs.Layout.{DistributorControl, Interface, Sources, Private,
 use Rattle.state.specs.Words.{wordAt, recordSlot, RecordThere, recordAt, sourcesAt, entryOf, entryWord, entryAt, distributorControlAt}
 use Rattle.state.proofs.Accessors.{entry-back, record-exists}
 use Rattle.service.specs.Service.{depthAt}
-use Rattle.image.specs.Parts.{Part}
-use Rattle.image.specs.Parts.{Registers, Service, Interrupt}
+use Rattle.image.specs.Parts.{Part, Registers, Service, Interrupt, partCount, partAt, partNumbers, PartThere}
 use Rattle.image.specs.Image.{each, entryNumbers, recordNumbers, spiNumbers, bodyNumbers, image}
-use Rattle.image.specs.Parts.{partCount, partAt, partNumbers, PartThere}
 use Rattle.image.proofs.ByParts.{each-same, numbersOf, body-by-parts}
 use Rattle.moving.proofs.StoredPlaces.{part-stands}
 use Rattle.moving.specs.Means.{MeansSame}

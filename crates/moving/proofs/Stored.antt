@@ -18,16 +18,14 @@ use Rattle.state.specs.Words.{wordAt, put, recordSlot, keptDistributorControl, 
 use Rattle.state.proofs.Accessors.{put-length, put-room, put-same, put-other, put-past}
 use Rattle.state.proofs.SlotKinds.{kinds-apart}
 use Rattle.state.proofs.Steps.{slots, Agree, steps-own, steps-others}
-use Rattle.image.specs.Parts.{Part}
-use Rattle.image.specs.Parts.{Registers, Service, Interrupt}
-use Rattle.image.specs.Parts.{partAt, partCount}
-use Rattle.image.proofs.Cases.{part-registers}
+use Rattle.image.specs.Parts.{Part, Registers, Service, Interrupt, partAt, partCount}
+use Rattle.image.proofs.Cases.{part-registers, service-part, private-part}
 use Rattle.load.specs.declared.walking.Place.{Place}
 use Rattle.load.specs.declared.walking.Place.the-variants.{At, Refused}
 use Rattle.load.specs.Load.{stored}
 use Rattle.load.specs.Walking.{thenPlace, partEnd, partStored, walked, stepStored, partsStored}
 use Rattle.moving.specs.Reads.{Reads}
-use Rattle.moving.proofs.StoredPlaces.{partIndex, OfPart, index-service, index-private, index-spi, Stands, part-stands}
+use Rattle.moving.proofs.StoredPlaces.{partIndex, OfPart, index-spi, Stands, part-stands}
 use Rattle.moving.proofs.StoredParts.{Bounded, up-bounded, Keeps, idle-keeps, part-keeps}
 use Rattle.moving.proofs.StoredLeft.{RegistersWritten, ServiceWritten, RecordWritten, PartWritten, PartLeft, part-left}
 
@@ -165,10 +163,10 @@ module _ (shape : Shape) (control : ℕ) (image : List ℕ) (start : ℕ) (w : L
     registers-as v b = written-as v (Registers (record { 0 = v })) (omega arith) (part-registers shape v b)
 
     service-as : (v : ℕ) → v < shape .count → ServiceWritten shape v held
-    service-as v b = written-as (shape .count + v) (Service (record { 0 = v })) (omega arith) (index-service shape v b)
+    service-as v b = written-as (shape .count + v) (Service (record { 0 = v })) (omega arith) (service-part shape v b)
 
     private-as : (v n : ℕ) → v < shape .count → n < 32 → RecordWritten shape v n held
-    private-as v n b low = written-as (2 * shape .count + 32 * v + n) (Interrupt (record { 0 = v }) (record { 0 = n })) (omega arith) (index-private shape v n b low)
+    private-as v n b low = written-as (2 * shape .count + 32 * v + n) (Interrupt (record { 0 = v }) (record { 0 = n })) (omega arith) (private-part shape v n b low)
 
     spi-as : (n : ℕ) → 32 ≤ n → n < shape .limit → RecordWritten shape 0 n held
     spi-as n high b = written-as (34 * shape .count + (n - 32)) (Interrupt (record { 0 = 0 }) (record { 0 = n })) (omega arith) (index-spi shape n high)

@@ -23,9 +23,7 @@ use Rattle.state.proofs.Accessors.{put-room, put-same, put-other, entry-same, r
 use Rattle.state.proofs.SlotKinds.{kinds-apart}
 use Rattle.state.proofs.Steps.{slots, Agree, Local, steps-room, steps-own, steps-others}
 use Rattle.service.specs.Service.{depthAt, stackTo, runningOf}
-use Rattle.image.specs.Parts.{Part}
-use Rattle.image.specs.Parts.{Registers, Service, Interrupt}
-use Rattle.image.specs.Parts.{PartThere}
+use Rattle.image.specs.Parts.{Part, Registers, Service, Interrupt, PartThere}
 use Rattle.load.specs.declared.reading.FoundRegisters.{FoundRegisters}
 use Rattle.load.specs.declared.reading.FoundRegisters.the-variants as registers
 use Rattle.load.specs.declared.reading.FoundEntry.{FoundEntry}

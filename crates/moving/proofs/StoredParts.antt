@@ -18,9 +18,7 @@ use Rattle.state.specs.Words.{put, recordSlot, RecordThere, withRecord, withSou
 use Rattle.state.proofs.Accessors.{put-length, put-past, record-exists}
 use Rattle.state.proofs.Numbers.{then-local, put-local}
 use Rattle.state.proofs.Steps.{Local}
-use Rattle.image.specs.Parts.{Part}
-use Rattle.image.specs.Parts.{Registers, Service, Interrupt}
-use Rattle.image.specs.Parts.{PartThere}
+use Rattle.image.specs.Parts.{Part, Registers, Service, Interrupt, PartThere}
 use Rattle.load.specs.declared.reading.FoundRegisters.{FoundRegisters}
 use Rattle.load.specs.declared.reading.FoundRegisters.the-variants as registers
 use Rattle.load.specs.declared.reading.FoundEntry.{FoundEntry}

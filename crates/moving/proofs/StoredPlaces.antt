@@ -10,10 +10,7 @@ use Rattle.state.specs.declared.layout.Shape.{Shape}
 use Rattle.state.specs.declared.layout.InterfaceValue.the-variants.{Control, PriorityMask, BinaryPoint, Depth}
 use Rattle.state.specs.Layout.{Slot, Count, Limit, DistributorControl, Interface, Sources, Private, Spi, Stack, Limits}
 use Rattle.state.specs.Words.{recordSlot}
-use Rattle.image.specs.Parts.{Part}
-use Rattle.image.specs.Parts.{Registers, Service, Interrupt}
-use Rattle.image.specs.Parts.{partCount, partAt, PartThere}
-use Rattle.image.proofs.Cases.{part-service, part-private, part-spi}
+use Rattle.image.specs.Parts.{Part, Registers, Service, Interrupt, partCount, partAt, PartThere}
 
 abbrev pub partIndex : Shape → Slot → ℕ
 partIndex shape Count = partCount shape
@@ -39,23 +36,8 @@ OfPart shape p t = partIndex shape t ≡ partIndex shape (slotOf p)
 
 -- the part of a slot has the slot's number
 module _ (shape : Shape) where
-  pub index-service : (v : ℕ) → v < shape .count → partAt shape (shape .count + v) ≡ Service (record { 0 = v })
-  index-service v b =
-      let same : shape .count + v - shape .count ≡ v = omega arith in
-      part-service shape (shape .count + v) (omega arith) (omega arith) ∙ ap (λ (x : ℕ). Service (record { 0 = x })) same
-
-  pub index-private : (v n : ℕ) → v < shape .count → n < 32
-      → partAt shape (2 * shape .count + 32 * v + n) ≡ Interrupt (record { 0 = v }) (record { 0 = n })
-  index-private v n b low =
-      let k : ℕ = 2 * shape .count + 32 * v + n in
-      let q : (k - 2 * shape .count) / 32 ≡ v = omega arith in
-      let m : (k - 2 * shape .count) % 32 ≡ n = omega arith in
-      part-private shape k (omega arith) (omega arith) ∙ (λ i. Interrupt (record { 0 = q i }) (record { 0 = m i }))
-
   pub index-spi : (n : ℕ) → 32 ≤ n → partAt shape (34 * shape .count + (n - 32)) ≡ Interrupt (record { 0 = 0 }) (record { 0 = n })
-  index-spi n high =
-      let same : 34 * shape .count + (n - 32) - 34 * shape .count + 32 ≡ n = omega arith in
-      part-spi shape (34 * shape .count + (n - 32)) (omega arith) ∙ ap (λ (x : ℕ). Interrupt (record { 0 = 0 }) (record { 0 = x })) same
+  index-spi n high = let same : 32 + (n - 32) ≡ n = omega arith in spi-part shape (n - 32) ∙ ap (λ (x : ℕ). Interrupt (record { 0 = 0 }) (record { 0 = x })) same
 
   -- and back: part k is there, and its slots have the number k
   pub record Stands (k : ℕ) (p : Part) : Type 0 where

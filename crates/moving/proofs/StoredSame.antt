@@ -16,13 +16,11 @@ use Rattle.state.specs.Lent.{HoldsState}
 use Rattle.state.specs.Words.{wordAt, recordSlot, distributorControlAt, entryWord, rewritten, Canonical}
 use Rattle.state.proofs.Equal.{canonical-equal}
 use Rattle.service.specs.Service.{depthAt}
-use Rattle.image.specs.Parts.{Part}
-use Rattle.image.specs.Parts.{Registers, Service, Interrupt}
-use Rattle.image.specs.Parts.{partAt, partCount}
-use Rattle.image.proofs.Cases.{part-registers}
+use Rattle.image.specs.Parts.{Part, Registers, Service, Interrupt, partAt, partCount}
+use Rattle.image.proofs.Cases.{part-registers, service-part, private-part}
 use Rattle.moving.specs.Means.{InUse}
 use Rattle.moving.specs.Reads.{SamePart}
-use Rattle.moving.proofs.StoredPlaces.{index-service, index-private, index-spi}
+use Rattle.moving.proofs.StoredPlaces.{index-spi}
 
 module _ (shape : Shape) (s r : List ℕ) (hs : HoldsState shape s) (hr : HoldsState shape r) (control : distributorControlAt shape s ≡ distributorControlAt shape r)
     (same : (k : ℕ) → k < partCount shape → SamePart shape (partAt shape k) s r) where
@@ -33,10 +31,10 @@ module _ (shape : Shape) (s r : List ℕ) (hs : HoldsState shape s) (hr : HoldsS
   registers-same v b = same-as v (Registers (record { 0 = v })) (omega arith) (part-registers shape v b)
 
   service-same : (v : ℕ) → v < shape .count → SamePart shape (Service (record { 0 = v })) s r
-  service-same v b = same-as (shape .count + v) (Service (record { 0 = v })) (omega arith) (index-service shape v b)
+  service-same v b = same-as (shape .count + v) (Service (record { 0 = v })) (omega arith) (service-part shape v b)
 
   private-same : (v n : ℕ) → v < shape .count → n < 32 → SamePart shape (Interrupt (record { 0 = v }) (record { 0 = n })) s r
-  private-same v n b low = same-as (2 * shape .count + 32 * v + n) (Interrupt (record { 0 = v }) (record { 0 = n })) (omega arith) (index-private shape v n b low)
+  private-same v n b low = same-as (2 * shape .count + 32 * v + n) (Interrupt (record { 0 = v }) (record { 0 = n })) (omega arith) (private-part shape v n b low)
 
   spi-same : (n : ℕ) → 32 ≤ n → n < shape .limit → SamePart shape (Interrupt (record { 0 = 0 }) (record { 0 = n })) s r
   spi-same n high b = same-as (34 * shape .count + (n - 32)) (Interrupt (record { 0 = 0 }) (record { 0 = n })) (omega arith) (index-spi shape n high)

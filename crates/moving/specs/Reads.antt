@@ -14,9 +14,7 @@ use Rattle.state.specs.Layout.{stackCapacity}
 use Rattle.state.specs.Words.{recordAt, sourcesAt, interfaceAt, entryAt}
 use Rattle.service.specs.Service.{depthAt, stackTo, runningOf}
 use Rattle.lawful_test.specs.LawfulTest.{numberLawful, stackLawful}
-use Rattle.image.specs.Parts.{Part}
-use Rattle.image.specs.Parts.{Registers, Service, Interrupt}
-use Rattle.image.specs.Parts.{partNumbers}
+use Rattle.image.specs.Parts.{Part, Registers, Service, Interrupt, partNumbers}
 use Rattle.load.specs.declared.reading.FoundRegisters.the-variants as registers
 use Rattle.load.specs.declared.reading.FoundEntry.the-variants as entry
 use Rattle.load.specs.declared.reading.FoundRecord.the-variants as records
