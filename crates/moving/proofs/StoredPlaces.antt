@@ -11,6 +11,7 @@ use Rattle.state.specs.declared.layout.InterfaceValue.the-variants.{Control, Pr
 use Rattle.state.specs.Layout.{Slot, Count, Limit, DistributorControl, Interface, Sources, Private, Spi, Stack, Limits}
 use Rattle.state.specs.Words.{recordSlot}
 use Rattle.image.specs.Parts.{Part, Registers, Service, Interrupt, partCount, partAt, PartThere}
+use Rattle.image.proofs.Cases.{spi-part}
 
 abbrev pub partIndex : Shape → Slot → ℕ
 partIndex shape Count = partCount shape
