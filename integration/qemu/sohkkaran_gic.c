@@ -79,6 +79,7 @@ struct SohkkaranGic {
     bool virtualization;
     bool check;
     uint32_t drop;
+    bool forget;
     char *report;
 
     /* Checking mode: the levels after the last call, found by an IAR on a copy. */
@@ -94,6 +95,7 @@ struct SohkkaranGic {
     uint64_t retired;
     uint64_t rises;
     uint64_t dropped;
+    uint64_t forgotten;
     uint64_t checks;
     uint64_t mismatches;
 };
@@ -125,6 +127,12 @@ static bool level_of(SohkkaranGic *s, unsigned vcpu)
     return vgic_answer_value(done(s, KIND_LEVEL, began, vgic_irq_level(s->words, s->length, vcpu))) != 0;
 }
 
+/* A broken variant, whose outputs are wrong on purpose. */
+static bool broken(SohkkaranGic *s)
+{
+    return s->drop || s->forget;
+}
+
 static void mismatch(SohkkaranGic *s, const char *what, unsigned found, unsigned wanted)
 {
     if (s->mismatches++ < SHOWN) {
@@ -153,6 +161,13 @@ static uint8_t levels_by_copy(SohkkaranGic *s)
     return levels;
 }
 
+static void hold_outputs(SohkkaranGic *s)
+{
+    if (s->check && !broken(s) && s->up != s->levels) {
+        mismatch(s, "the outputs", s->up, s->levels);
+    }
+}
+
 /* The outputs after a call: those in its wake set rise, and of those that are up the ones fall whose level is 0. */
 static void follow(SohkkaranGic *s, vgic_answer answer)
 {
@@ -167,7 +182,7 @@ static void follow(SohkkaranGic *s, vgic_answer answer)
         s->levels = levels;
     }
     s->rises += wake != 0;
-    /* The broken variant: such a wake set is thrown away. */
+    /* Broken: such a wake set is thrown away. */
     if (s->drop && wake && s->rises % s->drop == 0) {
         s->dropped++;
         wake = 0;
@@ -181,9 +196,7 @@ static void follow(SohkkaranGic *s, vgic_answer answer)
             qemu_irq_lower(s->irq[vcpu]);
         }
     }
-    if (s->check && !s->drop && s->up != s->levels) {
-        mismatch(s, "the outputs", s->up, s->levels);
-    }
+    hold_outputs(s);
 }
 
 /* The outputs of words that were found and not grown: each is its level. */
@@ -193,17 +206,21 @@ static void ask_all(SohkkaranGic *s)
     for (unsigned vcpu = 0; vcpu < s->num_cpu; vcpu++) {
         /* Lowered first, so that nothing which a CPU brought along takes the level's place. */
         qemu_irq_lower(s->irq[vcpu]);
-        if (level_of(s, vcpu)) {
-            s->up |= 1 << vcpu;
-            qemu_irq_raise(s->irq[vcpu]);
+        if (!level_of(s, vcpu)) {
+            continue;
         }
+        /* Broken: nobody is told. */
+        if (s->forget) {
+            s->forgotten++;
+            continue;
+        }
+        s->up |= 1 << vcpu;
+        qemu_irq_raise(s->irq[vcpu]);
     }
     if (s->check) {
         s->levels = levels_by_copy(s);
-        if (s->up != s->levels) {
-            mismatch(s, "the outputs", s->up, s->levels);
-        }
     }
+    hold_outputs(s);
 }
 
 /* A refused read is zero and a refused write is ignored, as docs/INTEGRATION.md says. */
@@ -457,7 +474,7 @@ static void report_at_exit(Notifier *notifier, void *data)
     }
     fprintf(file, "shape %u %u\n", s->num_cpu, s->num_irq);
     fprintf(file, "refusals %" PRIu64 "\nspurious %" PRIu64 "\nretired %" PRIu64 "\n", s->refusals, s->spurious, s->retired);
-    fprintf(file, "rises %" PRIu64 "\ndropped %" PRIu64 "\n", s->rises, s->dropped);
+    fprintf(file, "rises %" PRIu64 "\ndropped %" PRIu64 "\nforgotten %" PRIu64 "\n", s->rises, s->dropped, s->forgotten);
     fprintf(file, "checks %" PRIu64 "\nmismatches %" PRIu64 "\n", s->checks, s->mismatches);
     if (s->counts[KIND_SAVE].calls || s->counts[KIND_LOAD].calls) {
         fprintf(file, "image %u\n", s->image_length);
@@ -506,6 +523,8 @@ static Property properties[] = {
     DEFINE_PROP_BOOL("check", SohkkaranGic, check, false),
     /* Throw away every so-manyth wake set; 0 for none. */
     DEFINE_PROP_UINT32("drop", SohkkaranGic, drop, 0),
+    /* Leave the outputs down after a load. */
+    DEFINE_PROP_BOOL("forget", SohkkaranGic, forget, false),
     /* Where the counts are written at the end. */
     DEFINE_PROP_STRING("report", SohkkaranGic, report),
     DEFINE_PROP_END_OF_LIST(),
