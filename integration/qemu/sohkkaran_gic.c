@@ -136,7 +136,7 @@ static bool broken(SohkkaranGic *s)
 static void mismatch(SohkkaranGic *s, const char *what, unsigned found, unsigned wanted)
 {
     if (s->mismatches++ < SHOWN) {
-        error_report("sohkkaran-gic: %s is %#x where IAR on a copy says %#x", what, found, wanted);
+        error_report("sohkkaran-gic: %s: %#x, and not %#x as it should be", what, found, wanted);
     }
 }
 
