@@ -37,7 +37,7 @@ enum vgic_refusal {
     VGIC_REFUSED_LIMITS = 4,       /* setup: the count is not 1 to 8, or the limit not 32 to 1020 */
     VGIC_REFUSED_SHORT_STATE = 5,  /* setup, load: too few words are lent */
     VGIC_REFUSED_BROKEN_STATE = 6, /* the lent words are no controller's state */
-    VGIC_REFUSED_FULL_STACK = 7,   /* an acknowledge, while 255 interrupts are under service */
+    VGIC_REFUSED_FULL_STACK = 7,   /* an acknowledge, while 128 interrupts are under service */
     VGIC_REFUSED_INPUT = 8,        /* no device has this number: an SGI's, or not below the limit */
     VGIC_REFUSED_IMAGE = 9,        /* load: the bytes are no image; save: the words hold what no calls lead to */
     VGIC_REFUSED_ROOM = 10         /* save: the buffer is too short */
@@ -68,7 +68,7 @@ static inline uint16_t vgic_answer_retired(vgic_answer answer)
 }
 
 /* The layout of the words. It changes when a kept state of an earlier version means something else: keep it beside words that you keep. */
-#define VGIC_LAYOUT 1
+#define VGIC_LAYOUT 2
 
 /*
  * How many words a state takes: `count` is 1 to 8 vCPUs, and `limit`, 32 to 1020, the first number that is no interrupt. 0 where one of
@@ -76,14 +76,14 @@ static inline uint16_t vgic_answer_retired(vgic_answer answer)
  */
 uint64_t vgic_state_words(uint64_t count, uint64_t limit);
 
-#define VGIC_STATE_WORDS_MAX 3447
+#define VGIC_STATE_WORDS_MAX 2431
 
 /*
  * The same, and of constants a constant: it sizes an array, and may stand in #if. Out of range it is 0 too, which is no array's size in C
  * and C++ (gcc and clang let it pass without -Wpedantic; then vgic_setup refuses it). An argument may be evaluated several times.
  */
 #define VGIC_STATE_WORDS(count, limit) \
-    ((count) >= 1 && (count) <= 8 && (limit) >= 32 && (limit) <= 1020 ? 3 + (52 + 255) * (count) + ((limit) - 32) : 0)
+    ((count) >= 1 && (count) <= 8 && (limit) >= 32 && (limit) <= 1020 ? 3 + (52 + 128) * (count) + ((limit) - 32) : 0)
 
 /* Makes the words a fresh state. Refused by 4, then by 5. */
 vgic_answer vgic_setup(uint32_t *words, size_t length, uint64_t count, uint64_t limit);
@@ -109,10 +109,10 @@ vgic_answer vgic_setup(uint32_t *words, size_t length, uint64_t count, uint64_t 
 /* And a CPU interface's. */
 #define VGIC_GICC_CTLR 0x000u   /* control: bit 0 turns it on, bit 9 is the EOI mode */
 #define VGIC_GICC_PMR 0x004u    /* the priority that an interrupt has to be below */
-#define VGIC_GICC_BPR 0x008u    /* binary point */
+#define VGIC_GICC_BPR 0x008u    /* binary point b: one interrupts another only if its priority without the low b+1 bits is below */
 #define VGIC_GICC_IAR 0x00cu    /* a read acknowledges an interrupt */
 #define VGIC_GICC_EOIR 0x010u   /* ends an interrupt, or in EOI mode drops its priority */
-#define VGIC_GICC_RPR 0x014u    /* the priority under service */
+#define VGIC_GICC_RPR 0x014u    /* the priority under service, without those bits */
 #define VGIC_GICC_HPPIR 0x018u  /* the best that is pending */
 #define VGIC_GICC_ABPR 0x01cu   /* the binary point by another name */
 #define VGIC_GICC_AIAR 0x020u   /* IAR by another name */

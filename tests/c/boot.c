@@ -165,6 +165,24 @@ static void refused(void)
     expect("interrupt of a header", vgic_interrupt(none, 2, 9, 5), "6 0 0 1023");
 }
 
+/* A guest that sets the binary point to 2: what is served at 0x47 is not interrupted by its neighbour at 0x41. */
+static void neighbours(void)
+{
+    expect("n 2 40", vgic_setup(words, WORDS, COUNT, LIMIT), "0 0 0 1023");
+    expect("D 0 0 4 1", distributor(0, VGIC_GICD_CTLR, 1), "0 0 0 1023");
+    expect("C 1 0 4 1", interface(1, VGIC_GICC_CTLR, 1), "0 0 0 1023");
+    expect("C 1 4 4 255", interface(1, VGIC_GICC_PMR, 255), "0 0 0 1023");
+    expect("C 1 8 4 2", interface(1, VGIC_GICC_BPR, 2), "0 0 0 1023");
+    expect("D 1 1028 4 4278016", distributor(1, VGIC_GICD_IPRIORITYR + 4, 0x414700), "0 0 0 1023");
+    expect("D 0 3840 4 131077", distributor(0, VGIC_GICD_SGIR, 131077), "0 0 2 1023");
+    expect("c 1 12 4", interface_read(1, VGIC_GICC_IAR), "0 5 0 1023");
+    expect("c 1 20 4", interface_read(1, VGIC_GICC_RPR), "0 64 0 1023");
+    expect("D 0 3840 4 131078", distributor(0, VGIC_GICD_SGIR, 131078), "0 0 0 1023");
+    expect("c 1 12 4", interface_read(1, VGIC_GICC_IAR), "0 1023 0 1023");
+    expect("C 1 16 4 5", interface(1, VGIC_GICC_EOIR, 5), "0 0 2 5");
+    expect("c 1 12 4", interface_read(1, VGIC_GICC_IAR), "0 6 0 1023");
+}
+
 int main(void)
 {
     words[WORDS] = 0xa5c30ff1;
@@ -173,6 +191,7 @@ int main(void)
     asked();
     moved();
     refused();
+    neighbours();
     if (words[WORDS] != 0xa5c30ff1)
         differs("a word past the state has changed");
     return failed;

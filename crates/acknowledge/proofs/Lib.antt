@@ -1,3 +1,4 @@
 -- Laws that belong to no one function.
+pub mod Grouping
 pub mod Lowest
 pub mod Offers

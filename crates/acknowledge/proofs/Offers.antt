@@ -2,19 +2,21 @@
 use mathlib.Core.Path.{_≡_, refl, sym, subst}
 use mathlib.Core.Bool.{Bool, true, false, cond}
 use mathlib.Core.List.{List}
-use Prim.Native.Nat.{ℕ, _<_}
+use Prim.Native.Nat.{ℕ, _%_, _<_}
 use native.Mathlib.Omega.{arith}
 use borrow.Author.Tests.{ltb-true}
 use Rattle.word.proofs.RecordWord.{decoded-in-range}
 use Rattle.state.specs.declared.layout.Shape.{Shape}
-use Rattle.state.specs.Words.{wordAt, recordSlot}
+use Rattle.state.specs.declared.layout.InterfaceValue.the-variants.{BinaryPoint}
+use Rattle.state.specs.Words.{wordAt, recordSlot, interfaceAt}
 use Rattle.select.specs.declared.Candidate.{Candidate}
 use Rattle.select.specs.declared.Selected.{Selected}
 use Rattle.select.specs.declared.Selected.the-variants.{Best, Nothing}
 use Rattle.select.specs.Select.{best, bothOn}
 use Rattle.select.proofs.Meaning.{best-is}
 use Rattle.service.specs.Service.{running}
-use Rattle.acknowledge.specs.Acknowledge.{preempts, preempting, offer, pushedFor}
+use Rattle.acknowledge.specs.Acknowledge.{groupOf, preempts, preempting, offer, pushedFor}
+use Rattle.acknowledge.proofs.Grouping.{group-at-most, group-even}
 
 isSome : Selected → Type 0
 isSome Nothing = ⊥
@@ -53,9 +55,15 @@ module _ (shape : Shape) (v : ℕ) (s : List ℕ) (c : Candidate) where
   pub offer-below : offer shape v s ≡ Best c → c .intid .0 < shape .limit
   offer-below p = best-is shape v s c (offer-is p .best-one) .below
 
-  -- what is pushed for it is below what runs, and a byte
-  pub pushed-below : offer shape v s ≡ Best c → pushedFor c .priority .0 < running shape v s
-  pushed-below p = ltb-true (c .priority .0) (running shape v s) (offer-is p .preempting-one)
+  -- what is pushed for it is below what runs, a byte, and even
+  pub pushed-below : offer shape v s ≡ Best c → pushedFor shape v s c .priority .0 < running shape v s
+  pushed-below p = ltb-true (groupOf shape v s c) (running shape v s) (offer-is p .preempting-one)
 
-  pub pushed-byte : offer shape v s ≡ Best c → pushedFor c .priority .0 < 256
-  pushed-byte p = omega (arith, decoded-in-range (wordAt shape (recordSlot v (c .intid .0)) s) .priority-byte, best-is shape v s c (offer-is p .best-one) .priority)
+  pub group-byte : c .priority .0 < 256 → pushedFor shape v s c .priority .0 < 256
+  group-byte h = omega (arith, h, group-at-most (interfaceAt shape v BinaryPoint s) (c .priority .0))
+
+  pub pushed-byte : offer shape v s ≡ Best c → pushedFor shape v s c .priority .0 < 256
+  pushed-byte p = group-byte (omega (arith, decoded-in-range (wordAt shape (recordSlot v (c .intid .0)) s) .priority-byte, best-is shape v s c (offer-is p .best-one) .priority))
+
+  pub pushed-even : pushedFor shape v s c .priority .0 % 2 ≡ 0
+  pushed-even = group-even (interfaceAt shape v BinaryPoint s) (c .priority .0)

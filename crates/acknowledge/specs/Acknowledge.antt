@@ -1,4 +1,5 @@
--- IAR: document 01, "CPU interface places", IAR, and refusal 7; IHI 0048, 4.4.4, "Interrupt Acknowledge Register".
+-- IAR: document 01, "CPU interface places", IAR, and refusal 7; document 02, Two, the binary point; IHI 0048, 4.4.4, "Interrupt Acknowledge
+-- Register", and 3.3.3, "Priority grouping".
 use mathlib.Core.Path.{_≡_}
 use mathlib.Core.Bool.{Bool, true, false, cond}
 use mathlib.Core.List.{List}
@@ -10,9 +11,10 @@ use Rattle.interrupt.specs.declared.types.InterruptState.the-variants.{Active}
 use Rattle.interrupt.specs.declared.record.InterruptRecord.{InterruptRecord}
 use Rattle.interrupt.specs.declared.record.Owner.the-variants.{Vcpu}
 use Rattle.state.specs.declared.layout.Shape.{Shape}
+use Rattle.state.specs.declared.layout.InterfaceValue.the-variants.{BinaryPoint}
 use Rattle.state.specs.declared.words.Entry.{Entry}
 use Rattle.state.specs.Layout.{Room, stackCapacity}
-use Rattle.state.specs.Words.{changed, sourcesAt, withSources, enabledAt}
+use Rattle.state.specs.Words.{changed, sourcesAt, withSources, enabledAt, interfaceAt}
 use Rattle.sgi.specs.Sgi.{mergedSources}
 use Rattle.select.specs.declared.Candidate.{Candidate}
 use Rattle.select.specs.declared.Selected.{Selected}
@@ -22,15 +24,23 @@ use Rattle.service.specs.Service.{depthAt, running, pushed, Served}
 use Rattle.acknowledge.specs.declared.Read.{Read}
 use Rattle.acknowledge.specs.declared.Read.the-variants.{Value, StackFull}
 
--- "its priority is below the running priority"
+-- "With binary point b the group priority is the priority with its low b+1 bits cleared."
+unfoldable pub groupPriority : ℕ → ℕ → ℕ
+groupPriority b p = p / 2 ^ (b + 1) * 2 ^ (b + 1)
+
+-- a candidate's, by the vCPU's BPR as it stands
+abbrev pub groupOf : Shape → ℕ → List ℕ → Candidate → ℕ
+groupOf shape v s c = groupPriority (interfaceAt shape v BinaryPoint s) (c .priority .0)
+
+-- "IAR compares it with the running priority": it is below
 abbrev pub preempts : Shape → ℕ → List ℕ → Candidate → Bool
-preempts shape v s c = ltb (c .priority .0) (running shape v s)
+preempts shape v s c = ltb (groupOf shape v s c) (running shape v s)
 
 abbrev pub preempting : Shape → ℕ → List ℕ → Selected → Selected
 preempting shape v s Nothing = Nothing
 preempting shape v s (Best c) = cond (preempts shape v s c) (Best c) Nothing
 
--- "gives the best only if both are on and its priority is below the running priority"
+-- "gives the best only if both are on and its priority", now its group priority, "is below the running priority"
 unfoldable pub offer : Shape → ℕ → List ℕ → Selected
 offer shape v s = cond (bothOn shape v s) (preempting shape v s (best shape v s)) Nothing
 
@@ -60,16 +70,16 @@ sourceTaken shape v n source s = cond (isSgi (record { 0 = n })) (pendIfLeft sha
 unfoldable pub givenRecord : ℕ → InterruptRecord → InterruptRecord
 givenRecord v r = synchronizeInflight (setOwner (markInflight r) (Vcpu (record { 0 = v }))) Active .after
 
--- what is pushed for a candidate: "number and priority"
-abbrev pub pushedFor : Candidate → Entry
-pushedFor c = record { intid = c .intid; priority = c .priority }
+-- what is pushed for a candidate: "number and priority", and of the group priority: "the stack holds it"
+abbrev pub pushedFor : Shape → ℕ → List ℕ → Candidate → Entry
+pushedFor shape v s c = record { intid = c .intid; priority = record { 0 = groupOf shape v s c } }
 
 -- ".. and pushes number and priority": here before the record is marked, which is the same (`given-in-order` in crates/delivery); the source is
 -- taken last, for it may pend the record again
 unfoldable pub given : Shape → ℕ → Candidate → List ℕ → List ℕ
-given shape v c s = sourceTaken shape v (c .intid .0) (sourceOf shape v (c .intid .0) s) (changed shape v (c .intid .0) (givenRecord v) (pushed shape v (pushedFor c) s))
+given shape v c s = sourceTaken shape v (c .intid .0) (sourceOf shape v (c .intid .0) s) (changed shape v (c .intid .0) (givenRecord v) (pushed shape v (pushedFor shape v s c) s))
 
--- "answers number + 1024*source"; "else 1023"; 7 if it "would hand out an interrupt and the service stack holds 255"
+-- "answers number + 1024*source"; "else 1023"; 7 if it "would hand out an interrupt and the service stack holds" 128 (document 02, Two)
 unfoldable pub answered : Shape → ℕ → List ℕ → Selected → Read
 answered shape v s Nothing = Value 1023
 answered shape v s (Best c) = cond (ltb (depthAt shape v s) stackCapacity) (Value (c .intid .0 + 1024 * sourceOf shape v (c .intid .0) s)) StackFull

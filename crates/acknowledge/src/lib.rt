@@ -5,12 +5,13 @@ ghost use Rattle.state.specs.Layout.{Sources};
 ghost use Rattle.state.specs.Words.{Reached, HoldsSlot, changed, withSources};
 ghost use Rattle.select.specs.declared.Selected.the-variants.{Best};
 ghost use Rattle.service.specs.Service.{pushed, Served};
-ghost use Rattle.acknowledge.specs.Acknowledge.{preempts, preempting, offer, lowestSource, sourceOf, pendIfLeft, sourceTaken, givenRecord, pushedFor, given, answered, taken, acknowledge, acknowledged, MayAcknowledge, Givable};
+ghost use Rattle.acknowledge.specs.Acknowledge.{groupPriority, groupOf, preempts, preempting, offer, lowestSource, sourceOf, pendIfLeft, sourceTaken, givenRecord, pushedFor, given, answered, taken, acknowledge, acknowledged, MayAcknowledge, Givable};
 use interrupt::GicVcpuId;
 use interrupt::IntId;
 use interrupt::InterruptRecord;
 use interrupt::InterruptState;
 use interrupt::Owner;
+use interrupt::Priority;
 use select::Candidate;
 use select::Selected;
 use select::both_enabled;
@@ -20,9 +21,11 @@ use service::push_v2_active;
 use service::running_priority;
 use sgi::set_pending;
 use state::Entry;
+use state::InterfaceValue;
 use state::Shape;
 use state::layout::STACK_CAPACITY;
 use state::words::distributor_enabled;
+use state::words::interface_value;
 use state::words::put_record;
 use state::words::put_sgi_sources;
 use state::words::record;
@@ -35,11 +38,29 @@ pub enum Read {
     StackFull,
 }
 
+// `point` bits and one more are cleared: of all eight, 7 leaves none.
+fn group_priority(priority: Priority, point: u32) -> Priority
+    requires { ⌜ point < 8 ⌝ }
+    ensures { λ r. ⌜ r .0 ≡ groupPriority point (priority .0) ⌝ }
+{
+    let bits = point + 1;
+    let high = priority.0 as u32 >> bits;
+    Priority::new((high << bits) as u8)
+}
+
+fn group_of(words: &[u32], shape: Shape, vcpu: GicVcpuId, candidate: Candidate) -> Priority
+    requires { ⌜ Served shape (vcpu .0) (now words) ⌝ }
+    ensures { λ r. ⌜ r .0 ≡ groupOf shape (vcpu .0) (now (words .entry)) candidate ⌝ }
+{
+    let point = interface_value(words, shape, vcpu, InterfaceValue::BinaryPoint);
+    group_priority(candidate.priority, point)
+}
+
 fn preempts(words: &[u32], shape: Shape, vcpu: GicVcpuId, candidate: Candidate) -> bool
     requires { ⌜ Served shape (vcpu .0) (now words) ⌝ }
     ensures { λ r. ⌜ r ≡ preempts shape (vcpu .0) (now (words .entry)) candidate ⌝ }
 {
-    candidate.priority.0 < running_priority(words, shape, vcpu).0
+    group_of(words, shape, vcpu, candidate).0 < running_priority(words, shape, vcpu).0
 }
 
 fn preempting(words: &[u32], shape: Shape, vcpu: GicVcpuId, selected: Selected) -> Selected
@@ -136,19 +157,21 @@ fn mark_inflight(words: &mut [u32], shape: Shape, vcpu: GicVcpuId, intid: IntId)
 }
 
 // What is pushed for a candidate.
-fn pushed_for(candidate: Candidate) -> Entry
-    ensures { λ r. ⌜ r ≡ pushedFor candidate ⌝ }
+fn pushed_for(words: &[u32], shape: Shape, vcpu: GicVcpuId, candidate: Candidate) -> Entry
+    requires { ⌜ Served shape (vcpu .0) (now words) ⌝ }
+    ensures { λ r. ⌜ r ≡ pushedFor shape (vcpu .0) (now (words .entry)) candidate ⌝ }
 {
     let intid = candidate.intid;
-    let priority = candidate.priority;
+    let priority = group_of(words, shape, vcpu, candidate);
     Entry { intid, priority }
 }
 
 fn serve(words: &mut [u32], shape: Shape, vcpu: GicVcpuId, candidate: Candidate)
     requires { ⌜ Givable shape (vcpu .0) candidate (now words) ⌝ }
-    ensures { λ r. ⌜ now (words .exit) ≡ changed shape (vcpu .0) (candidate .intid .0) (givenRecord (vcpu .0)) (pushed shape (vcpu .0) (pushedFor candidate) (now (words .entry))) ⌝ }
+    ensures { λ r. ⌜ now (words .exit) ≡ changed shape (vcpu .0) (candidate .intid .0) (givenRecord (vcpu .0)) (pushed shape (vcpu .0) (pushedFor shape (vcpu .0) (now (words .entry)) candidate) (now (words .entry))) ⌝ }
 {
-    push_v2_active(words, shape, vcpu, pushed_for(candidate));
+    let entry = pushed_for(words, shape, vcpu, candidate);
+    push_v2_active(words, shape, vcpu, entry);
     mark_inflight(words, shape, vcpu, candidate.intid);
 }
 

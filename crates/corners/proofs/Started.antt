@@ -27,7 +27,7 @@ use Rattle.sgi.specs.Sgi.{writeSources, pendSgi, sgiTarget, sendSgi, writeSgir}
 use Rattle.distributor.specs.Bytes.{readPriority, writePriority, readBytes, writeBytes}
 use Rattle.select.specs.Select.{candidate, bestBelow, highestPending}
 use Rattle.service.specs.Service.{stackTo, pushed, popped, dropped}
-use Rattle.acknowledge.specs.Acknowledge.{offer, lowestFrom, sourceOf, pendIfLeft, sourceTaken, givenRecord, given, answered, taken}
+use Rattle.acknowledge.specs.Acknowledge.{groupPriority, offer, lowestFrom, sourceOf, pendIfLeft, sourceTaken, givenRecord, given, answered, taken}
 use Rattle.end.specs.End.{retire, deactivated, retired, ended, endRetired}
 use Rattle.wake.specs.Wake.{wakeSet}
 use Rattle.controller.specs.Start as start
@@ -68,5 +68,5 @@ setup-started count limit s within long = simp (within, long, fresh-started (sha
 
 -- a call; where this unfolds, so does all that the calls of a computed history go by
 unfoldable pub computing : Call → List ℕ → Outcome
-unfolding upTo limited newRecord startingRecord setEnabled setPending setActive stateOf setState markInflight synchronizeInflight cancelInflight held finishInflight deactivateInflight setPriority setTrigger setCpuTargetMask setOwner setLevel pulse complete decoded startingTrigger recordOf wordOf packed gathered firstNumber isPrivate placeAt unfit single bitWord byteArray locateInFrame locateDistributor registers registerIn registerAt locateCpuInterface ranges rangeIn rangeAt everyBelow interfaceOf headerSlot vcpuSlot slotAt recordSlot validated readNumber readBits clearActive writeNumber writeBits readTarget writeTarget writeSources pendSgi sgiTarget sendSgi writeSgir readPriority writePriority readBytes writeBytes candidate bestBelow highestPending stackTo pushed popped dropped offer lowestFrom sourceOf pendIfLeft sourceTaken givenRecord given answered taken retire deactivated retired ended endRetired wakeSet readV2Distributor writeV2Distributor readV2CpuInterface writeV2CpuInterface inputOf deviceInput
+unfolding upTo limited newRecord startingRecord setEnabled setPending setActive stateOf setState markInflight synchronizeInflight cancelInflight held finishInflight deactivateInflight setPriority setTrigger setCpuTargetMask setOwner setLevel pulse complete decoded startingTrigger recordOf wordOf packed gathered firstNumber isPrivate placeAt unfit single bitWord byteArray locateInFrame locateDistributor registers registerIn registerAt locateCpuInterface ranges rangeIn rangeAt everyBelow interfaceOf headerSlot vcpuSlot slotAt recordSlot validated readNumber readBits clearActive writeNumber writeBits readTarget writeTarget writeSources pendSgi sgiTarget sendSgi writeSgir readPriority writePriority readBytes writeBytes candidate bestBelow highestPending stackTo pushed popped dropped groupPriority offer lowestFrom sourceOf pendIfLeft sourceTaken givenRecord given answered taken retire deactivated retired ended endRetired wakeSet readV2Distributor writeV2Distributor readV2CpuInterface writeV2CpuInterface inputOf deviceInput
 computing c s = called c s

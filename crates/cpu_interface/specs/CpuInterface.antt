@@ -52,7 +52,7 @@ ctlrRule = keptRule Control
 abbrev pub pmrRule : Rule
 pmrRule = keptRule PriorityMask
 
--- "BPR 0x08 and ABPR 0x1C are one value, 3 bits, kept and read back only"
+-- "BPR 0x08 and ABPR 0x1C are one value, 3 bits", which an acknowledge groups by (`groupOf` in crates/acknowledge)
 abbrev pub bprRule : Rule
 bprRule = keptRule BinaryPoint
 
@@ -60,6 +60,7 @@ bprRule = keptRule BinaryPoint
 abbrev pub iarRule : Rule
 iarRule = rule Acknowledges Ignored
 
+-- the newest entry as it is stored, which is a group priority: "RPR shows it" (document 02, Two)
 abbrev pub rprRule : Rule
 rprRule = rule (Shows running) Ignored
 

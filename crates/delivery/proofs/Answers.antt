@@ -32,7 +32,7 @@ module _ (shape : Shape) (v : ℕ) (s : List ℕ) (h : Served shape v s) (e : Ca
   unfolding taken
   acknowledged-is = ap (taken shape v s) o ∙ simp (lt-ltb (depthAt shape v s) stackCapacity room)
 
-  pub acknowledged-stack : stackAt shape v (acknowledged shape v s) ≡ pushedFor e ∷ stackAt shape v s
+  pub acknowledged-stack : stackAt shape v (acknowledged shape v s) ≡ pushedFor shape v s e ∷ stackAt shape v s
   acknowledged-stack =
       let below : e .intid .0 < shape .limit = givable .numbered in
       ap (stackAt shape v) acknowledged-is

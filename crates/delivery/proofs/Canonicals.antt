@@ -98,17 +98,17 @@ module _ (shape : Shape) (v n source : ℕ) (there : RecordThere shape v n) (s :
       go false e = c
 
 module _ (shape : Shape) (v : ℕ) (s : List ℕ) (h : Served shape v s) (c : Canonical shape s) where
-  pub given-canonical : (e : Candidate) → Givable shape v e s → pushedFor e .priority .0 < 256 → Canonical shape (given shape v e s)
+  pub given-canonical : (e : Candidate) → Givable shape v e s → pushedFor shape v s e .priority .0 < 256 → Canonical shape (given shape v e s)
   unfolding given
   given-canonical e g byte =
       let n : ℕ = e .intid .0 in
       let there : RecordThere shape v n = record { numbered = g .numbered; banked = λ p. h .exists } in
       let few = h .state .limits .few-vcpus in
       let here : v < shape .count = h .exists in
-      let room = pushed-room shape v (pushedFor e) s h (g .room) in
-      taken-canonical shape v n (sourceOf shape v n s) there (changed shape v n (givenRecord v) (pushed shape v (pushedFor e) s))
-      (put-room shape (pushed shape v (pushedFor e) s) (recordSlot v n) (wordOf (givenRecord v (recordAt shape v n (pushed shape v (pushedFor e) s)))) room)
-      (changed-canonical shape v n there (givenRecord v) (λ r i. given-in-range v r (omega (arith, few, here)) i) (pushed shape v (pushedFor e) s) room (pushed-canonical shape v s h c (pushedFor e) (g .room) byte))
+      let room = pushed-room shape v (pushedFor shape v s e) s h (g .room) in
+      taken-canonical shape v n (sourceOf shape v n s) there (changed shape v n (givenRecord v) (pushed shape v (pushedFor shape v s e) s))
+      (put-room shape (pushed shape v (pushedFor shape v s e) s) (recordSlot v n) (wordOf (givenRecord v (recordAt shape v n (pushed shape v (pushedFor shape v s e) s)))) room)
+      (changed-canonical shape v n there (givenRecord v) (λ r i. given-in-range v r (omega (arith, few, here)) i) (pushed shape v (pushedFor shape v s e) s) room (pushed-canonical shape v s h c (pushedFor shape v s e) (g .room) byte))
 
   pub acknowledged-canonical : Canonical shape (acknowledged shape v s)
   acknowledged-canonical =

@@ -73,14 +73,14 @@ module _ (shape : Shape) (v : ℕ) (e : Candidate) (s : List ℕ) (g : Givable s
   there = record { numbered = g .numbered; banked = λ b. g .served .exists }
 
   -- the steps in document 01's order, in which the record is marked before the push
-  pub given-in-order : given shape v e s ≡ sourceTaken shape v (e .intid .0) (sourceOf shape v (e .intid .0) s) (pushed shape v (pushedFor e) (changed shape v (e .intid .0) (givenRecord v) s))
+  pub given-in-order : given shape v e s ≡ sourceTaken shape v (e .intid .0) (sourceOf shape v (e .intid .0) s) (pushed shape v (pushedFor shape v s e) (changed shape v (e .intid .0) (givenRecord v) s))
   unfolding given pushed
   given-in-order =
       ap (sourceTaken shape v n (sourceOf shape v n s))
-      (ap (λ (x : ℕ). put shape slot (wordOf (givenRecord v (recordOf x))) (pushed shape v (pushedFor e) s)) (pushed-others shape v (pushedFor e) s (g .served) (g .room) slot it off-depth off-stack)
-      ∙ put-comm shape (put shape depth (d + 1) s) (Stack v d) slot (entryWord (pushedFor e)) marked (g .served .exists, g .room) it (λ p. off-stack (sym p))
-      ∙ ap (put shape (Stack v d) (entryWord (pushedFor e))) (put-comm shape s depth slot (d + 1) marked (g .served .exists) it (λ p. off-depth (sym p)))
-      ∙ ap (λ (x : ℕ). put shape (Stack v x) (entryWord (pushedFor e)) (put shape depth (x + 1) (put shape slot marked s))) (sym (put-other shape s depth slot marked (g .served .exists) it (λ p. off-depth (sym p)))))
+      (ap (λ (x : ℕ). put shape slot (wordOf (givenRecord v (recordOf x))) (pushed shape v (pushedFor shape v s e) s)) (pushed-others shape v (pushedFor shape v s e) s (g .served) (g .room) slot it off-depth off-stack)
+      ∙ put-comm shape (put shape depth (d + 1) s) (Stack v d) slot (entryWord (pushedFor shape v s e)) marked (g .served .exists, g .room) it (λ p. off-stack (sym p))
+      ∙ ap (put shape (Stack v d) (entryWord (pushedFor shape v s e))) (put-comm shape s depth slot (d + 1) marked (g .served .exists) it (λ p. off-depth (sym p)))
+      ∙ ap (λ (x : ℕ). put shape (Stack v x) (entryWord (pushedFor shape v s e)) (put shape depth (x + 1) (put shape slot marked s))) (sym (put-other shape s depth slot marked (g .served .exists) it (λ p. off-depth (sym p)))))
     where
       n : ℕ
       n = e .intid .0
@@ -107,30 +107,30 @@ module _ (shape : Shape) (v : ℕ) (e : Candidate) (s : List ℕ) (g : Givable s
       off-stack = record-apart v n (Stack v d) refl
 
   -- after the push only the record and the sources change
-  after-push : (t : Slot) → Exists shape t → (t ≡ recordSlot v (e .intid .0) → ⊥) → (t ≡ Sources v (e .intid .0) → ⊥) → wordAt shape t (given shape v e s) ≡ wordAt shape t (pushed shape v (pushedFor e) s)
+  after-push : (t : Slot) → Exists shape t → (t ≡ recordSlot v (e .intid .0) → ⊥) → (t ≡ Sources v (e .intid .0) → ⊥) → wordAt shape t (given shape v e s) ≡ wordAt shape t (pushed shape v (pushedFor shape v s e) s)
   unfolding given
   after-push t x no-record no-sources =
-      let before = changed shape v (e .intid .0) (givenRecord v) (pushed shape v (pushedFor e) s) in
+      let before = changed shape v (e .intid .0) (givenRecord v) (pushed shape v (pushedFor shape v s e) s) in
       source-others shape v (e .intid .0) (sourceOf shape v (e .intid .0) s) there before t x no-record no-sources
-      ∙ put-other shape (pushed shape v (pushedFor e) s) t (recordSlot v (e .intid .0)) (wordOf (givenRecord v (recordAt shape v (e .intid .0) (pushed shape v (pushedFor e) s)))) x (record-exists shape v (e .intid .0) there) no-record
+      ∙ put-other shape (pushed shape v (pushedFor shape v s e) s) t (recordSlot v (e .intid .0)) (wordOf (givenRecord v (recordAt shape v (e .intid .0) (pushed shape v (pushedFor shape v s e) s)))) x (record-exists shape v (e .intid .0) there) no-record
 
   pub given-room : Room shape (given shape v e s)
   unfolding given
   given-room =
-      let before = changed shape v (e .intid .0) (givenRecord v) (pushed shape v (pushedFor e) s) in
+      let before = changed shape v (e .intid .0) (givenRecord v) (pushed shape v (pushedFor shape v s e) s) in
       source-room shape v (e .intid .0) (sourceOf shape v (e .intid .0) s) there before
-      (put-room shape (pushed shape v (pushedFor e) s) (recordSlot v (e .intid .0)) (wordOf (givenRecord v (recordAt shape v (e .intid .0) (pushed shape v (pushedFor e) s)))) (pushed-room shape v (pushedFor e) s (g .served) (g .room)))
+      (put-room shape (pushed shape v (pushedFor shape v s e) s) (recordSlot v (e .intid .0)) (wordOf (givenRecord v (recordAt shape v (e .intid .0) (pushed shape v (pushedFor shape v s e) s)))) (pushed-room shape v (pushedFor shape v s e) s (g .served) (g .room)))
 
   -- every other slot stays
   pub given-others : (t : Slot) → Exists shape t → (t ≡ recordSlot v (e .intid .0) → ⊥) → (t ≡ Sources v (e .intid .0) → ⊥) → (t ≡ Interface v Depth → ⊥) → (t ≡ Stack v (depthAt shape v s) → ⊥)
       → wordAt shape t (given shape v e s) ≡ wordAt shape t s
   given-others t x no-record no-sources no-depth no-entry =
-      after-push t x no-record no-sources ∙ pushed-others shape v (pushedFor e) s (g .served) (g .room) t x no-depth no-entry
+      after-push t x no-record no-sources ∙ pushed-others shape v (pushedFor shape v s e) s (g .served) (g .room) t x no-depth no-entry
 
   pub given-depth : depthAt shape v (given shape v e s) ≡ depthAt shape v s + 1
   given-depth =
       after-push (Interface v Depth) (g .served .exists) (apart-record (Interface v Depth) v (e .intid .0) refl) (kinds-apart (Interface v Depth) (Sources v (e .intid .0)) refl)
-      ∙ pushed-depth shape v (pushedFor e) s (g .served) (g .room)
+      ∙ pushed-depth shape v (pushedFor shape v s e) s (g .served) (g .room)
 
   pub given-depths : (u : ℕ) → u < shape .count → (u ≡ v → ⊥) → depthAt shape u (given shape v e s) ≡ depthAt shape u s
   given-depths u x apart =
@@ -147,14 +147,14 @@ module _ (shape : Shape) (v : ℕ) (e : Candidate) (s : List ℕ) (g : Givable s
       (record-apart u m (Stack v (depthAt shape v s)) refl))
 
   -- the old stack with the new entry
-  pub given-stack : e .intid .0 < 1024 → pushedFor e .priority .0 < 256 → stackAt shape v (given shape v e s) ≡ pushedFor e ∷ stackAt shape v s
+  pub given-stack : e .intid .0 < 1024 → pushedFor shape v s e .priority .0 < 256 → stackAt shape v (given shape v e s) ≡ pushedFor shape v s e ∷ stackAt shape v s
   given-stack a b =
-      let deeper = pushed-depth shape v (pushedFor e) s (g .served) (g .room) in
+      let deeper = pushed-depth shape v (pushedFor shape v s e) s (g .served) (g .room) in
       let room : depthAt shape v s < stackCapacity = g .room in
-      stack-same shape v (pushed shape v (pushedFor e) s) (given shape v e s) (rw deeper (omega arith))
+      stack-same shape v (pushed shape v (pushedFor shape v s e) s) (given shape v e s) (rw deeper (omega arith))
       (after-push (Interface v Depth) (g .served .exists) (apart-record (Interface v Depth) v (e .intid .0) refl) (kinds-apart (Interface v Depth) (Sources v (e .intid .0)) refl))
       (λ i c. after-push (Stack v i) (g .served .exists, c) (apart-record (Stack v i) v (e .intid .0) refl) (kinds-apart (Stack v i) (Sources v (e .intid .0)) refl))
-      ∙ pushed-stack shape v (pushedFor e) s (g .served) (g .room) a b
+      ∙ pushed-stack shape v (pushedFor shape v s e) s (g .served) (g .room) a b
 
   -- and what the others have under service
   pub given-stacks : (u : ℕ) → u < shape .count → (u ≡ v → ⊥) → depthAt shape u s ≤ stackCapacity → stackAt shape u (given shape v e s) ≡ stackAt shape u s
@@ -193,23 +193,23 @@ module _ (shape : Shape) (v n : ℕ) (s : List ℕ) (h : Room shape s) (x : Exis
 module _ (shape : Shape) (v : ℕ) (e : Candidate) (s : List ℕ) (g : Givable shape v e s) where
   -- the record after the push and the marks
   marked : List ℕ
-  marked = changed shape v (e .intid .0) (givenRecord v) (pushed shape v (pushedFor e) s)
+  marked = changed shape v (e .intid .0) (givenRecord v) (pushed shape v (pushedFor shape v s e) s)
 
-  old-record : recordAt shape v (e .intid .0) (pushed shape v (pushedFor e) s) ≡ recordAt shape v (e .intid .0) s
+  old-record : recordAt shape v (e .intid .0) (pushed shape v (pushedFor shape v s e) s) ≡ recordAt shape v (e .intid .0) s
   old-record =
       ap recordOf
-      (pushed-others shape v (pushedFor e) s (g .served) (g .room) (recordSlot v (e .intid .0)) (record-exists shape v (e .intid .0) (there shape v e s g))
+      (pushed-others shape v (pushedFor shape v s e) s (g .served) (g .room) (recordSlot v (e .intid .0)) (record-exists shape v (e .intid .0) (there shape v e s g))
       (record-apart v (e .intid .0) (Interface v Depth) refl)
       (record-apart v (e .intid .0) (Stack v (depthAt shape v s)) refl))
 
   marked-record : recordAt shape v (e .intid .0) marked ≡ givenRecord v (recordAt shape v (e .intid .0) s)
   unfolding marked
   marked-record =
-      let r = recordAt shape v (e .intid .0) (pushed shape v (pushedFor e) s) in
+      let r = recordAt shape v (e .intid .0) (pushed shape v (pushedFor shape v s e) s) in
       let few = g .served .state .limits .few-vcpus in
       let here : v < shape .count = g .served .exists in
-      record-same shape (pushed shape v (pushedFor e) s) v (e .intid .0) (givenRecord v r) (pushed-room shape v (pushedFor e) s (g .served) (g .room)) (record-exists shape v (e .intid .0) (there shape v e s g))
-      (given-in-range v r (omega (arith, few, here)) (decoded-in-range (wordAt shape (recordSlot v (e .intid .0)) (pushed shape v (pushedFor e) s))))
+      record-same shape (pushed shape v (pushedFor shape v s e) s) v (e .intid .0) (givenRecord v r) (pushed-room shape v (pushedFor shape v s e) s (g .served) (g .room)) (record-exists shape v (e .intid .0) (there shape v e s g))
+      (given-in-range v r (omega (arith, few, here)) (decoded-in-range (wordAt shape (recordSlot v (e .intid .0)) (pushed shape v (pushedFor shape v s e) s))))
       ∙ ap (givenRecord v) old-record
 
   -- an interrupt that is no SGI
@@ -230,9 +230,9 @@ module _ (shape : Shape) (v : ℕ) (e : Candidate) (s : List ℕ) (g : Givable s
     old-sources =
         let n : ℕ = e .intid .0 in
         ap (λ (w : ℕ). w % 256)
-        (put-other shape (pushed shape v (pushedFor e) s) (Sources v n) (recordSlot v n) (wordOf (givenRecord v (recordAt shape v n (pushed shape v (pushedFor e) s)))) here (record-exists shape v n (there shape v e s g))
+        (put-other shape (pushed shape v (pushedFor shape v s e) s) (Sources v n) (recordSlot v n) (wordOf (givenRecord v (recordAt shape v n (pushed shape v (pushedFor shape v s e) s)))) here (record-exists shape v n (there shape v e s g))
         (apart-record (Sources v n) v n refl)
-        ∙ pushed-others shape v (pushedFor e) s (g .served) (g .room) (Sources v n) here (kinds-apart (Sources v n) (Interface v Depth) refl) (kinds-apart (Sources v n) (Stack v (depthAt shape v s)) refl))
+        ∙ pushed-others shape v (pushedFor shape v s e) s (g .served) (g .room) (Sources v n) here (kinds-apart (Sources v n) (Interface v Depth) refl) (kinds-apart (Sources v n) (Stack v (depthAt shape v s)) refl))
 
     left-fits : left < 256
     unfolding left
@@ -240,7 +240,7 @@ module _ (shape : Shape) (v : ℕ) (e : Candidate) (s : List ℕ) (g : Givable s
 
     marked-room : Room shape marked
     unfolding marked
-    marked-room = put-room shape (pushed shape v (pushedFor e) s) (recordSlot v (e .intid .0)) (wordOf (givenRecord v (recordAt shape v (e .intid .0) (pushed shape v (pushedFor e) s)))) (pushed-room shape v (pushedFor e) s (g .served) (g .room))
+    marked-room = put-room shape (pushed shape v (pushedFor shape v s e) s) (recordSlot v (e .intid .0)) (wordOf (givenRecord v (recordAt shape v (e .intid .0) (pushed shape v (pushedFor shape v s e) s)))) (pushed-room shape v (pushedFor shape v s e) s (g .served) (g .room))
 
     given-is : given shape v e s ≡ pendIfLeft shape v (e .intid .0) (withSources shape v (e .intid .0) left marked)
     unfolding given sourceTaken sourceOf left marked

@@ -34,13 +34,13 @@ module _ (shape : Shape) (v : ℕ) (s : List ℕ) (P : CpuInterfaceRegister → 
       go Acknowledges e = acknowledges register e
 
 -- no register keeps the depth of a stack
-abbrev OffDepths : ℕ → WriteRule → Type 0
+abbrev pub OffDepths : ℕ → WriteRule → Type 0
 OffDepths v Ignored = Unit
 OffDepths v (Keeps k) = OffStack (Interface v k)
 OffDepths v Ends = Unit
 OffDepths v Deactivates = Unit
 
-off-depths : (v : ℕ) (register : CpuInterfaceRegister) → OffDepths v (ruleOf register .writes)
+pub off-depths : (v : ℕ) (register : CpuInterfaceRegister) → OffDepths v (ruleOf register .writes)
 off-depths v Ctlr = refl
 off-depths v Pmr = refl
 off-depths v Bpr = refl

@@ -105,7 +105,8 @@ startsAnew (Acts a) = false
 abbrev pub isStart : Call → Bool
 isStart c = startsAnew (deed c)
 
--- a guest's calls: a ring (a write to SGIR), an acknowledge (a read of IAR), an end (a write to EOIR), a deactivation (a write to DIR)
+-- a guest's calls: a ring (a write to SGIR), an acknowledge (a read of IAR), an end (a write to EOIR), a deactivation (a write to DIR), a look at the
+-- running priority (a read of RPR)
 abbrev pub sgirWrite : ℕ → ℕ → Call
 sgirWrite v value = WriteDistributor v 0xf00 Dword value
 
@@ -117,6 +118,9 @@ eoirWrite v n = WriteCpuInterface v 0x10 Dword n
 
 abbrev pub dirWrite : ℕ → ℕ → Call
 dirWrite v n = WriteCpuInterface v 0x1000 Dword n
+
+abbrev pub rprRead : ℕ → Call
+rprRead v = ReadCpuInterface v 0x14 Dword
 
 -- the state after a history
 unfoldable pub run : List Call → List ℕ → List ℕ

@@ -1,7 +1,8 @@
--- "So at most 255 are held and an acknowledge never lacks room": of a stack whose priorities fall and lie below 255. Assumes nothing.
+-- "So at most 255 are held and an acknowledge never lacks room"; of a stack whose priorities fall, lie below 255 and are even, at most 128
+-- (document 02, Two). Assumes nothing.
 use mathlib.Core.Path.{_≡_, refl, sym, ap, _∙_}
 use mathlib.Core.List.{List}
-use Prim.Native.Nat.{ℕ, zero, suc, _+_, _≤_, _<_}
+use Prim.Native.Nat.{ℕ, zero, suc, _+_, _*_, _≤_, _<_}
 use native.Mathlib.Omega.{arith}
 use borrow.Author.Tests.{lt-ltb}
 use Rattle.interrupt.specs.Types.{idlePriority}
@@ -17,10 +18,12 @@ use Rattle.acknowledge.proofs.Offers.{pushed-below}
 use Rattle.lawful.specs.Lawful.{priorityAt, Orderly}
 
 module _ (shape : Shape) (v : ℕ) (s : List ℕ) (h : Orderly shape s) (exists : v < shape .count) where
-  -- each entry lies as far below the idle priority as there are older ones, and one more
-  pub older-above : (i : ℕ) → i < depthAt shape v s → priorityAt shape v i s + i < idlePriority
+  -- each entry lies below the idle priority by two for every older one, and one more
+  pub older-above : (i : ℕ) → i < depthAt shape v s → priorityAt shape v i s + 2 * i < idlePriority
   older-above zero b = omega (arith, h .below-idle v zero exists b)
-  older-above (suc i) b = omega (arith, older-above i (omega arith), h .falling v i (suc i) exists (omega arith) b)
+  older-above (suc i) b =
+      let earlier : i < depthAt shape v s = omega arith in
+      omega (arith, older-above i earlier, h .falling v i (suc i) exists (omega arith) b, h .even v i exists earlier, h .even v (suc i) exists b)
 
   pub at-most-capacity : depthAt shape v s ≤ stackCapacity
   at-most-capacity = go (depthAt shape v s) refl
@@ -39,7 +42,7 @@ module _ (shape : Shape) (v : ℕ) (s : List ℕ) (h : Orderly shape s) (exists 
     where
       go : (d : ℕ) → depthAt shape v s ≡ d → d < stackCapacity
       go zero q = omega arith
-      go (suc d) q = omega (arith, older-above d (omega arith), pushed-below shape v s e p, running-newest d q)
+      go (suc d) q = omega (arith, older-above d (omega arith), h .even v d exists (omega arith), pushed-below shape v s e p, running-newest d q)
 
   pub never-full : refusalOf (acknowledge shape v s) ≡ 0
   unfolding answered

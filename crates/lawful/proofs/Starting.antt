@@ -63,6 +63,7 @@ module _ (shape : Shape) (s : List ℕ) (h : Room shape s) where
   fresh-orderly = record {
     falling = λ v i j b k d. absurd (omega (arith, empty v b, d));
     below-idle = λ v i b d. absurd (omega (arith, empty v b, d));
+    even = λ v i b d. absurd (omega (arith, empty v b, d));
     records = λ v n there. subst (OrderlyRecord shape) (started v n there) (starting-orderly shape n);
     sourced = λ v n b sgi.
         ap (λ (r : InterruptRecord). r .pending) (sym (started v n (record { numbered = omega (arith, sgi, h .limits .private-numbers); banked = λ low. b })))

@@ -1,10 +1,10 @@
--- What holds of a controller after any sequence of calls: the mission's demand 3 in its own words (`Orderly`), and the lawful states of
--- document 02, request One (`Lawful`), which have more. Demand 3 alone is not kept by every call: an SGI with its line high would be set
+-- What holds of a controller after any sequence of calls: the mission's demand 3 in its own words, with what document 02 adds to them
+-- (`Orderly`), and the lawful states of its request One (`Lawful`), which have more. Demand 3 alone is not kept by every call: an SGI with its line high would be set
 -- pending by an enable with no source set. A lawful state stays lawful.
 use mathlib.Core.Path.{_≡_}
 use mathlib.Core.Bool.{true, false, not}
 use mathlib.Core.List.{List}
-use Prim.Native.Nat.{ℕ, _^_, _<_}
+use Prim.Native.Nat.{ℕ, _%_, _^_, _<_}
 use lib.Dec.{eqb}
 use Rattle.interrupt.specs.Types.{idlePriority}
 use Rattle.interrupt.specs.declared.record.CpuTargetMask.the-variants.{Unset}
@@ -42,6 +42,8 @@ pub record Orderly (shape : Shape) (s : List ℕ) : Type 0 where
   pub falling : (v i j : ℕ) → v < shape .count → i < j → j < depthAt shape v s → priorityAt shape v j s < priorityAt shape v i s
   -- .. and lie below 255"
   pub below-idle : (v i : ℕ) → v < shape .count → i < depthAt shape v s → priorityAt shape v i s < idlePriority
+  -- request Two: "Stored entries are now even, which joins demand 3's properties"
+  pub even : (v i : ℕ) → v < shape .count → i < depthAt shape v s → priorityAt shape v i s % 2 ≡ 0
   pub records : (v n : ℕ) → RecordThere shape v n → OrderlyRecord shape (recordAt shape v n s)
   -- "an SGI is pending at a vCPU exactly when a source bit is set there"
   pub sourced : (v n : ℕ) → v < shape .count → n < 16 → recordAt shape v n s .pending ≡ not (eqb (sourcesAt shape v n s) 0)

@@ -2,7 +2,7 @@
 use mathlib.Core.Path.{_≡_, refl, sym, ap, _∙_}
 use mathlib.Core.Bool.{Bool, true, false, not, _&&_, true≢false, false≢true}
 use mathlib.Core.List.{List}
-use Prim.Native.Nat.{ℕ, zero, suc, _+_, _-_, _^_, _≤_, _<_}
+use Prim.Native.Nat.{ℕ, zero, suc, _+_, _-_, _%_, _^_, _≤_, _<_}
 use native.Mathlib.Omega.{arith}
 use lib.Dec.{eqb, ltb}
 use lib.Pow.{pow-pos}
@@ -149,21 +149,35 @@ pass-sources x false e = rw e
 module _ (shape : Shape) (v : ℕ) (s : List ℕ) where
   entry-passes : Lawful shape s → v < shape .count → (i : ℕ) → i < depthAt shape v s → entryLawfulAt shape v s i ≡ true
   unfolding stackTo
-  entry-passes h exists i b = both-true (ltb (priorityAt shape v i s) (runningOf (stackTo shape v s i))) _ (lt-ltb (priorityAt shape v i s) (runningOf (stackTo shape v s i)) (below i b)) (lt-ltb _ _ (h .numbered v i exists b))
+  entry-passes h exists i b =
+      let p = priorityAt shape v i s in
+      let above = runningOf (stackTo shape v s i) in
+      both-true (ltb p above && eqb (p % 2) 0) _
+      (both-true (ltb p above) _ (lt-ltb p above (below i b)) (eq-eqb (p % 2) 0 (h .orderly .even v i exists b)))
+      (lt-ltb _ _ (h .numbered v i exists b))
     where
       below : (i : ℕ) → i < depthAt shape v s → priorityAt shape v i s < runningOf (stackTo shape v s i)
       below zero b = h .orderly .below-idle v zero exists b
       below (suc i) b = h .orderly .falling v i (suc i) exists (omega arith) b
+
+  abbrev below : ℕ → Bool
+  below i = ltb (priorityAt shape v i s) (runningOf (stackTo shape v s i))
+
+  abbrev evenly : ℕ → Bool
+  evenly i = eqb (priorityAt shape v i s % 2) 0
 
   module _ (pass : stackLawful shape v s ≡ true) where
     entry-pass : (i : ℕ) → i < depthAt shape v s → entryLawfulAt shape v s i ≡ true
     entry-pass i b = every-at (entryLawfulAt shape v s) (depthAt shape v s) i pass b
 
     priority-pass : (i : ℕ) → i < depthAt shape v s → priorityAt shape v i s < runningOf (stackTo shape v s i)
-    priority-pass i b = ltb-true _ _ (left-true (ltb (priorityAt shape v i s) (runningOf (stackTo shape v s i))) _ (entry-pass i b))
+    priority-pass i b = ltb-true _ _ (left-true (below i) _ (left-true (below i && evenly i) _ (entry-pass i b)))
+
+    pass-even : (i : ℕ) → i < depthAt shape v s → priorityAt shape v i s % 2 ≡ 0
+    pass-even i b = eqb-true _ _ (right-true (below i) _ (left-true (below i && evenly i) _ (entry-pass i b)))
 
     pass-numbered : (i : ℕ) → i < depthAt shape v s → entryAt shape v i s .intid .0 < shape .limit
-    pass-numbered i b = ltb-true _ _ (right-true (ltb (priorityAt shape v i s) (runningOf (stackTo shape v s i))) _ (entry-pass i b))
+    pass-numbered i b = ltb-true _ _ (right-true (below i && evenly i) _ (entry-pass i b))
 
     pass-below-idle : (i : ℕ) → i < depthAt shape v s → priorityAt shape v i s < idlePriority
     unfolding stackTo
@@ -248,6 +262,7 @@ module _ (shape : Shape) (s : List ℕ) where
       orderly = record {
         falling = λ v i j b. pass-falling shape v s (stack-pass v b) i j;
         below-idle = λ v i b. pass-below-idle shape v s (stack-pass v b) i;
+        even = λ v i b. pass-even shape v s (stack-pass v b) i;
         records = λ v n there. record-pass v n there .orderly;
         sourced = sourced-pass;
       };

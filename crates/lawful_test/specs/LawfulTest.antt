@@ -2,7 +2,7 @@
 -- words that hold a state pass exactly if they are lawful. Each test names the fields of Lawful.antt that it stands for.
 use mathlib.Core.Bool.{Bool, true, not, cond, _&&_, _||_}
 use mathlib.Core.List.{List}
-use Prim.Native.Nat.{ℕ, _+_, _-_, _^_}
+use Prim.Native.Nat.{ℕ, _+_, _-_, _%_, _^_}
 use lib.Dec.{eqb, ltb}
 use Rattle.interrupt.specs.Types.{isSgi, isPrivateId, isLevel}
 use Rattle.interrupt.specs.declared.record.CpuTargetMask.{CpuTargetMask}
@@ -60,9 +60,9 @@ numberLawful shape v s n =
 abbrev pub numbersLawful : Shape → ℕ → List ℕ → ℕ → ℕ → Bool
 numbersLawful shape v s first many = everyBelow (λ k. numberLawful shape v s (first + k)) many
 
--- `falling` and `below-idle`: each entry could be acknowledged where those before it run; and `numbered`
+-- `falling` and `below-idle`: each entry could be acknowledged where those before it run; `even`; and `numbered`
 abbrev pub entryLawful : Shape → ℕ → Entry → Bool
-entryLawful shape above e = ltb (e .priority .0) above && ltb (e .intid .0) (shape .limit)
+entryLawful shape above e = ltb (e .priority .0) above && eqb (e .priority .0 % 2) 0 && ltb (e .intid .0) (shape .limit)
 
 abbrev pub entryLawfulAt : Shape → ℕ → List ℕ → ℕ → Bool
 entryLawfulAt shape v s i = entryLawful shape (runningOf (stackTo shape v s i)) (entryAt shape v i s)

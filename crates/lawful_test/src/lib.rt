@@ -186,10 +186,10 @@ fn spis_lawful(words: &[u32], shape: Shape) -> bool
 pub fn entry_lawful(shape: Shape, above: Priority, entry: Entry) -> bool
     ensures { λ r. ⌜ r ≡ entryLawful shape (above .0) «entry» ⌝ }
 {
-    (entry.priority.0 < above.0) & (entry.intid.0 < shape.limit)
+    (entry.priority.0 < above.0) & (entry.priority.0 % 2 == 0) & (entry.intid.0 < shape.limit)
 }
 
-// From the oldest: each lies below the one before it, and the oldest below what runs when nothing does.
+// From the oldest: each is even and lies below the one before it, and the oldest below what runs when nothing does.
 fn stack_lawful(words: &[u32], shape: Shape, vcpu: GicVcpuId) -> bool
     requires { ⌜ Served shape (vcpu .0) (now words) ⌝ }
     ensures { λ r. ⌜ r ≡ stackLawful shape (vcpu .0) (now (words .entry)) ⌝ }

@@ -1,5 +1,5 @@
 -- An acknowledge raises no line: what a vCPU could be given after it, it could be given before; and the one that was given something can be
--- given nothing at once, since all that waits for it is less urgent than what it now serves, or as urgent. Assumes nothing.
+-- given nothing at once, since all that waits for it is less urgent than what it now serves, or of its group. Assumes nothing.
 use mathlib.Core.Path.{_≡_, refl, sym, ap, subst, _∙_}
 use mathlib.Core.Bool.{Bool, true, false, cond, _&&_, true≢false}
 use mathlib.Core.List.{List}
@@ -11,7 +11,7 @@ use Rattle.interrupt.specs.declared.record.InterruptRecord.{InterruptRecord}
 use Rattle.interrupt.specs.Record.{synchronizeInflight, setState, setOwner, markInflight, setPending}
 use Rattle.state.specs.declared.layout.Shape.{Shape}
 use Rattle.state.specs.declared.layout.InterfaceValue.{InterfaceValue}
-use Rattle.state.specs.declared.layout.InterfaceValue.the-variants.{Control, PriorityMask, Depth}
+use Rattle.state.specs.declared.layout.InterfaceValue.the-variants.{Control, PriorityMask, BinaryPoint, Depth}
 use Rattle.word.specs.Word.{recordOf}
 use Rattle.state.specs.Layout.{Slot, DistributorControl, Interface, Sources, Stack, Limits, numberOf, interfaceNumber, stackCapacity}
 use Rattle.state.specs.Words.{wordAt, sourcesAt, recordAt, kept, interfaceAt, keptDistributorControl, enableBit, enabledAt}
@@ -23,7 +23,8 @@ use Rattle.select.specs.declared.Selected.the-variants.{Best, Nothing}
 use Rattle.select.specs.Select.{eligible, candidate, bothOn, IsBest}
 use Rattle.select.proofs.Meaning.{candidate-idle, best-is}
 use Rattle.service.specs.Service.{depthAt, runningOf, running, Sound}
-use Rattle.acknowledge.specs.Acknowledge.{offer, givenRecord, given, Givable}
+use Rattle.acknowledge.specs.Acknowledge.{groupPriority, groupOf, offer, givenRecord, given, Givable}
+use Rattle.acknowledge.proofs.Grouping.{group-in-order}
 use Rattle.acknowledge.proofs.Offers.{offer-is, pushed-byte}
 use Rattle.delivery.proofs.Given.{given-others, given-depths, given-records, given-stack, given-stacks, given-record, given-sgi}
 use Rattle.moves.specs.Moves.{Giving}
@@ -93,15 +94,21 @@ module _ (shape : Shape) (v : ℕ) (e : Candidate) (s : List ℕ) (h : Sound sha
       urgent : c .priority .0 ≡ recordAt shape u (c .intid .0) s .priority .0
       urgent = best-after .priority ∙ ap (λ (r : InterruptRecord). r .priority .0) (record-stays (c .intid .0) (best-after .below) (best-after .chosen))
 
-      ahead : c .priority .0 < running shape u after
-      ahead = ltb-true (c .priority .0) (running shape u after) (offer-is shape u after c offered .preempting-one)
+      -- its group priority, by the binary point as it was
+      abbrev group : ℕ
+      group = groupPriority (interfaceAt shape u BinaryPoint s) (recordAt shape u (c .intid .0) s .priority .0)
+
+      ahead : group < running shape u after
+      ahead =
+          subst (λ (p : ℕ). p < running shape u after) (λ i. groupPriority (value-stays BinaryPoint refl i) (urgent i))
+          (ltb-true (groupOf shape u after c) (running shape u after) (offer-is shape u after c offered .preempting-one))
 
       -- to another vCPU could be given before
       others-ready : (u ≡ v → ⊥) → ready shape u s ≡ true
       others-ready apart =
           let same : running shape u after ≡ running shape u s = ap runningOf (given-stacks shape v e s it u exists apart (h .depths u exists)) in
           preempting-ready shape u s (c .intid .0) (best-after .below) was
-          (lt-ltb (recordAt shape u (c .intid .0) s .priority .0) (running shape u s) (rw (urgent, same) at ahead))
+          (lt-ltb group (running shape u s) (rw same at ahead))
           (sym on-stays ∙ offer-is shape u after c offered .on)
 
   -- and to the one that acknowledged is nothing
@@ -109,10 +116,10 @@ module _ (shape : Shape) (v : ℕ) (e : Candidate) (s : List ℕ) (h : Sound sha
   own-nothing c offered =
       let here : v < shape .count = g .exists in
       let low : e .intid .0 < shape .limit = it .numbered in
-      let serves : running shape v after ≡ e .priority .0 = ap runningOf (given-stack shape v e s it (omega (arith, low, h .state .limits .few-numbers)) (pushed-byte shape v s e (g .offered))) in
+      let serves : running shape v after ≡ groupOf shape v s e = ap runningOf (given-stack shape v e s it (omega (arith, low, h .state .limits .few-numbers)) (pushed-byte shape v s e (g .offered))) in
       let best = best-is shape v s e (offer-is shape v s e (g .offered) .best-one) in
       let least : e .priority .0 ≤ recordAt shape v (c .intid .0) s .priority .0 = best .smallest (c .intid .0) (best-after v here c offered .below) (was v here c offered) in
-      omega (arith, least, urgent v here c offered, rw serves at (ahead v here c offered))
+      omega (arith, group-in-order (interfaceAt shape v BinaryPoint s) (e .priority .0) (recordAt shape v (c .intid .0) s .priority .0) least, rw serves at (ahead v here c offered))
 
   pub own-falls : lineLevel shape v after ≡ false
   own-falls = ready-number shape v after (h .state .limits) ∙ unfold ready in go (offer shape v after) refl

@@ -126,6 +126,7 @@ module _ (shape : Shape) (s : List ℕ) (h : Lawful shape s) where
     popped-stack = record {
       falling = λ i j k d. rw (older j (popped-in d), older i (omega (arith, k, popped-in d))) (h .orderly .falling v i j (o .exists) k (omega (arith, popped-in d)));
       below-idle = λ i d. rw (older i (popped-in d)) (h .orderly .below-idle v i (o .exists) (omega (arith, popped-in d)));
+      even = λ i d. rw (older i (popped-in d)) (h .orderly .even v i (o .exists) (omega (arith, popped-in d)));
       numbered = λ i d. rw (older i (popped-in d)) (h .numbered v i (o .exists) (omega (arith, popped-in d)));
     }
 

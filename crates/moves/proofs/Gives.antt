@@ -1,5 +1,5 @@
--- An interrupt given keeps a state lawful: its entry is below every older one, its record in flight and this vCPU's, and an SGI pending exactly if
--- a source is left. Assumes nothing.
+-- An interrupt given keeps a state lawful: its entry is even and below every older one, its record in flight and this vCPU's, and an SGI pending
+-- exactly if a source is left. Assumes nothing.
 use mathlib.Core.Path.{_≡_, refl, sym, ap, subst, _∙_}
 use mathlib.Core.Bool.{Bool, true, false, not, cond}
 use mathlib.Core.List.{List, [], _∷_}
@@ -24,7 +24,7 @@ use Rattle.select.specs.declared.Candidate.{Candidate}
 use Rattle.service.specs.Service.{depthAt, runningOf, running}
 use Rattle.service.proofs.Stacks.{stack-empty, stack-newest}
 use Rattle.acknowledge.specs.Acknowledge.{givenRecord, pushedFor, Givable}
-use Rattle.acknowledge.proofs.Offers.{pushed-below, pushed-byte}
+use Rattle.acknowledge.proofs.Offers.{pushed-below, pushed-byte, pushed-even}
 use Rattle.delivery.proofs.Given.{given-others, given-depth, given-stack, given-record, given-sgi}
 use Rattle.lawful.specs.Lawful.{priorityAt, Lawful}
 use Rattle.lawful.proofs.Depths.{running-newest}
@@ -44,7 +44,7 @@ module _ (shape : Shape) (s : List ℕ) (h : Lawful shape s) (v : ℕ) (e : Cand
   n = e .intid .0
 
   abbrev entry : Entry
-  entry = pushedFor e
+  entry = pushedFor shape v s e
 
   abbrev after : List ℕ
   after = moved shape (Given v e) s
@@ -59,7 +59,7 @@ module _ (shape : Shape) (s : List ℕ) (h : Lawful shape s) (v : ℕ) (e : Cand
   old = record-fine shape s h v n there-given
 
   -- the new entry: below every older one, and below the idle one
-  newest : entryAt shape v (depthAt shape v s) after ≡ entry
+  pub newest : entryAt shape v (depthAt shape v s) after ≡ entry
   unfolding topOf
   newest =
       let deeper : depthAt shape v after ≡ suc (depthAt shape v s) = given-depth shape v e s lent ∙ add-one (depthAt shape v s) in
@@ -108,6 +108,8 @@ module _ (shape : Shape) (s : List ℕ) (h : Lawful shape s) (v : ℕ) (e : Cand
         (λ old. rw (entry-kept j old, entry-kept i (omega (arith, k, old))) (h .orderly .falling v i j (o .exists) k old));
     below-idle = λ i d.
         last-or i (depthAt shape v s) (given-in d) (λ p. rw (p, priority-new) below-idle-one) (λ old. rw (entry-kept i old) (h .orderly .below-idle v i (o .exists) old));
+    even = λ i d.
+        last-or i (depthAt shape v s) (given-in d) (λ p. rw (p, priority-new) (pushed-even shape v s e)) (λ old. rw (entry-kept i old) (h .orderly .even v i (o .exists) old));
     numbered = λ i d.
         last-or i (depthAt shape v s) (given-in d)
         (λ p. rw p (subst (λ (x : Entry). x .intid .0 < shape .limit) (sym newest) (lent .numbered)))

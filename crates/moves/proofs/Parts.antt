@@ -3,7 +3,7 @@ use mathlib.Core.Path.{_≡_, refl, sym, subst}
 use mathlib.Core.Bool.{not}
 use mathlib.Core.List.{List}
 use mathlib.Core.Logic.{inl, inr}
-use Prim.Native.Nat.{ℕ, _<_}
+use Prim.Native.Nat.{ℕ, _%_, _<_}
 use native.Mathlib.Omega.{arith}
 use lib.Dec.{eqb}
 use Rattle.interrupt.specs.Types.{idlePriority}
@@ -26,6 +26,7 @@ use Rattle.moves.proofs.Records.{Fine, fine-for}
 pub record StackFine (shape : Shape) (v : ℕ) (s : List ℕ) : Type 0 where
   pub falling : (i j : ℕ) → i < j → j < depthAt shape v s → priorityAt shape v j s < priorityAt shape v i s
   pub below-idle : (i : ℕ) → i < depthAt shape v s → priorityAt shape v i s < idlePriority
+  pub even : (i : ℕ) → i < depthAt shape v s → priorityAt shape v i s % 2 ≡ 0
   pub numbered : (i : ℕ) → i < depthAt shape v s → entryAt shape v i s .intid .0 < shape .limit
 
 -- and of an SGI with its sources
@@ -46,6 +47,7 @@ module _ (shape : Shape) (r : List ℕ)
   orderly = record {
     falling = λ v i j b k d. stacks v b .falling i j k d;
     below-idle = λ v i b d. stacks v b .below-idle i d;
+    even = λ v i b d. stacks v b .even i d;
     records = λ v n there. records v n there .orderly;
     sourced = λ v n b sgi. sgis v n b sgi .sourced;
   }
@@ -66,6 +68,7 @@ module _ (shape : Shape) (v : ℕ) (s r : List ℕ) (h : Lawful shape s) (exists
   stack-kept = record {
     falling = λ i j k d. rw (entry j (depth-in d), entry i (omega (arith, k, depth-in d))) (h .orderly .falling v i j exists k (depth-in d));
     below-idle = λ i d. rw (entry i (depth-in d)) (h .orderly .below-idle v i exists (depth-in d));
+    even = λ i d. rw (entry i (depth-in d)) (h .orderly .even v i exists (depth-in d));
     numbered = λ i d. rw (entry i (depth-in d)) (h .numbered v i exists (depth-in d));
   }
     where

@@ -1,8 +1,8 @@
 -- What reading a part of an image found is in the range that its slots hold. Assumes nothing.
 use mathlib.Core.Path.{_≡_, refl, subst}
-use mathlib.Core.Bool.{Bool, true, false, cond}
+use mathlib.Core.Bool.{Bool, true, false, cond, _&&_}
 use mathlib.Core.List.{List}
-use Prim.Native.Nat.{ℕ, _-_, _^_, _≤_, _<_}
+use Prim.Native.Nat.{ℕ, _-_, _%_, _^_, _≤_, _<_}
 use native.Mathlib.Omega.{arith}
 use lib.Dec.{eqb, leb, ltb}
 use borrow.Author.Tests.{leb-true, ltb-true, eqb-true, eqb-false}
@@ -96,7 +96,7 @@ entry-ranged shape above image at e next found = subst (EntryFine shape) found
     then-all (EntryFine shape) entry.Refused (numberUpTo 255 image a) _ tt (λ p b q.
     test-all (EntryFine shape) (entryLawful shape above (entryFrom n p)) (entry.Read (entryFrom n p) b) entry.Refused
     (λ t. let most : p ≤ 255 = number-most 255 image a p b q in
-    record { numbered = ltb-true n (shape .limit) (right-true (ltb p above) (ltb n (shape .limit)) t); byte = omega arith })
+    record { numbered = ltb-true n (shape .limit) (right-true (ltb p above && eqb (p % 2) 0) (ltb n (shape .limit)) t); byte = omega arith })
     (λ _. tt))))
 
 -- what follows a record's flags and priority

@@ -23,10 +23,10 @@ use Rattle.select.specs.declared.Selected.{Selected}
 use Rattle.select.specs.declared.Selected.the-variants.{Best, Nothing}
 use Rattle.service.specs.Service.{depthAt, stackAt, isNewest, pushed, popped, dropped, Served}
 use Rattle.service.proofs.Stacks.{newest-some}
-use Rattle.acknowledge.specs.Acknowledge.{offer, sourceOf, pendIfLeft, sourceTaken, givenRecord, pushedFor, given, taken, acknowledged}
+use Rattle.acknowledge.specs.Acknowledge.{groupOf, offer, sourceOf, pendIfLeft, sourceTaken, givenRecord, pushedFor, given, taken, acknowledged}
 use Rattle.acknowledge.proofs.Offers.{offer-below}
 use Rattle.end.specs.End.{servedHere, onlyActive, retire, deactivated, retired, deactivates, ended, endRetired}
-use Rattle.reach.proofs.Readings.{interface-alike, sources-alike, source-of-alike, tested-alike, stack-alike, offer-alike, retired-alike, deactivates-alike}
+use Rattle.reach.proofs.Readings.{interface-alike, sources-alike, group-of-alike, source-of-alike, tested-alike, stack-alike, offer-alike, retired-alike, deactivates-alike}
 use Rattle.reach.proofs.Around.{Around, Passes, Through, long-room, none-passes, then-passes, choice-passes, with-passes, then-through, if-through, put-through, changed-through}
 use Rattle.reach.proofs.Distributor.{sources-through}
 
@@ -83,9 +83,11 @@ module _ {shape : Shape} {wrap : List ℕ → List ℕ} (around : Around shape w
     unfolding given
     given-passes e room below =
         let n : ℕ = e .intid .0 in
-        let push : Passes wrap (pushed shape v (pushedFor e)) s = pushed-passes (pushedFor e) room in
-        with-passes (sourceOf shape v n) (λ source r. sourceTaken shape v n source (changed shape v n (givenRecord v) (pushed shape v (pushedFor e) r))) (source-of-alike same v exists n)
-        (then-passes push (then-through (changed-through around v n (givenRecord v) (there below)) (source-through n (sourceOf shape v n s) (there below)) (pushed shape v (pushedFor e) s) (long-room (push .long) (h .state))))
+        let entry : Entry = pushedFor shape v s e in
+        let push : Passes wrap (pushed shape v entry) s = pushed-passes entry room in
+        with-passes (λ r. groupOf shape v r e) (λ q r. sourceTaken shape v n (sourceOf shape v n r) (changed shape v n (givenRecord v) (pushed shape v (record { intid = e .intid; priority = record { 0 = q } }) r))) (group-of-alike same v exists e)
+        (with-passes (sourceOf shape v n) (λ source r. sourceTaken shape v n source (changed shape v n (givenRecord v) (pushed shape v entry r))) (source-of-alike same v exists n)
+        (then-passes push (then-through (changed-through around v n (givenRecord v) (there below)) (source-through n (sourceOf shape v n s) (there below)) (pushed shape v entry s) (long-room (push .long) (h .state)))))
 
     taken-passes : (b : Selected) → offer shape v s ≡ b → Passes wrap (λ r. taken shape v r b) s
     unfolding taken

@@ -15,7 +15,7 @@ use Rattle.word.specs.Word.{bitOf, maskByte, recordOf}
 use Rattle.word.proofs.Gathered.{gathered-same}
 use Rattle.state.specs.declared.layout.Shape.{Shape}
 use Rattle.state.specs.declared.layout.InterfaceValue.{InterfaceValue}
-use Rattle.state.specs.declared.layout.InterfaceValue.the-variants.{Control, PriorityMask, Depth}
+use Rattle.state.specs.declared.layout.InterfaceValue.the-variants.{Control, PriorityMask, BinaryPoint, Depth}
 use Rattle.state.specs.Layout.{DistributorControl, Interface, Sources, Stack, stackCapacity}
 use Rattle.state.specs.Words.{recordSlot, RecordThere, recordAt, sourcesAt, kept, interfaceAt, keptDistributorControl, distributorControlAt, enableBit, enabledAt}
 use Rattle.state.proofs.Accessors.{record-exists}
@@ -32,7 +32,7 @@ use Rattle.select.specs.Select.{eligible, candidate, better, bestBelow, best, b
 use Rattle.service.specs.Service.{depthAt, stackAt, runningOf, running, isNewest, Sound}
 use Rattle.service.proofs.Stacks.{stack-same}
 use Rattle.acknowledge.specs.declared.Read.the-variants.{Value, StackFull}
-use Rattle.acknowledge.specs.Acknowledge.{preempts, preempting, offer, lowestSource, sourceOf, answered, acknowledge}
+use Rattle.acknowledge.specs.Acknowledge.{groupPriority, groupOf, preempts, preempting, offer, lowestSource, sourceOf, answered, acknowledge}
 use Rattle.end.specs.End.{servedHere, retired, deactivates}
 use Rattle.wake.specs.Wake.{isSpurious, givesNumber, woken, wakeSet}
 
@@ -114,6 +114,9 @@ module _ {shape : Shape} {r s : List ℕ} (same : Agree shape Inner r s) where
     unfolding sourceOf
     source-of-alike n = when (ltb n 16) 0 (λ e. ap lowestSource (sources-alike n (ltb-true n 16 e)))
 
+    pub group-of-alike : (c : Candidate) → groupOf shape v r c ≡ groupOf shape v s c
+    group-of-alike c = ap (λ (b : ℕ). groupPriority b (c .priority .0)) (interface-alike BinaryPoint)
+
     -- a test of a record, where there is one
     pub tested-alike : (n : ℕ) (c : InterruptRecord → Bool) → (ltb n (shape .limit) && c (recordAt shape v n r)) ≡ (ltb n (shape .limit) && c (recordAt shape v n s))
     tested-alike n c = go (ltb n (shape .limit)) refl
@@ -138,7 +141,7 @@ module _ {shape : Shape} {r s : List ℕ} (same : Agree shape Inner r s) where
       deactivates-alike n = λ i. isNewest n (stack-alike i) && not (eqb (interface-alike Control i / 512 % 2) 1)
 
       preempts-alike : (c : Candidate) → preempts shape v r c ≡ preempts shape v s c
-      preempts-alike c = λ i. ltb (c .priority .0) (running-alike i)
+      preempts-alike c = λ i. ltb (group-of-alike c i) (running-alike i)
 
       preempting-alike : (b : Selected) → preempting shape v r b ≡ preempting shape v s b
       preempting-alike Nothing = refl

@@ -3,7 +3,7 @@ use mathlib.Core.Path.{_≡_, refl}
 use Rattle.register.specs.declared.frame.AccessWidth.the-variants.{Dword}
 use Rattle.register.specs.declared.distributor.DistributorAccess.the-variants as distributor
 use Rattle.register.specs.declared.«cpu_interface».CpuInterfaceAccess.the-variants as interface
-use Rattle.register.specs.declared.«cpu_interface».CpuInterfaceRegister.the-variants.{Iar, Aiar, Eoir, Dir}
+use Rattle.register.specs.declared.«cpu_interface».CpuInterfaceRegister.the-variants.{Iar, Aiar, Eoir, Rpr, Dir}
 use Rattle.register.specs.declared.ranges.Class.the-variants.{Sgir}
 use Rattle.register.specs.CpuInterface.{registers, registerIn, registerAt, locateCpuInterface}
 use Rattle.register.specs.Distributor.{plain, single, locateInFrame, locateDistributor}
@@ -20,6 +20,10 @@ aiar-at = refl
 pub eoir-at : locateCpuInterface 0x10 Dword ≡ interface.At Eoir
 unfolding locateCpuInterface registerAt registerIn registers
 eoir-at = refl
+
+pub rpr-at : locateCpuInterface 0x14 Dword ≡ interface.At Rpr
+unfolding locateCpuInterface registerAt registerIn registers
+rpr-at = refl
 
 pub dir-at : locateCpuInterface 0x1000 Dword ≡ interface.At Dir
 unfolding locateCpuInterface registerAt registerIn registers

@@ -76,11 +76,11 @@ module _ (shape : Shape) (s : List ℕ) (h : Lawful shape s) where
   interface-most : (v : ℕ) → bytesOf (interfaceNumbers shape s v) ≤ 5
   interface-most v = two-more _ _ 3 (omega arith) (two-more _ _ 1 (omega arith) (one-more _ _ 0 (omega arith) none))
 
-  service-most : (v : ℕ) → v < shape .count → bytesOf (serviceNumbers shape s v) ≤ 1022
+  service-most : (v : ℕ) → v < shape .count → bytesOf (serviceNumbers shape s v) ≤ 514
   service-most v b =
       let deep = h .in-range .depths v b in
       let entries = each-most (λ i. entryNumbers (entryAt shape v i s)) (depthAt shape v s) 4 (λ i _. two-more _ _ 2 (omega arith) (two-more _ _ 0 (omega arith) none)) in
-      two-more _ _ 1020 (omega arith) (omega arith)
+      two-more _ _ 512 (omega arith) (omega arith)
 
   private-most : (v : ℕ) → bytesOf (each (privateNumbersAt shape s v) 32) ≤ 128
   private-most v =
@@ -112,11 +112,11 @@ module _ (shape : Shape) (s : List ℕ) (h : Lawful shape s) where
       let r = recordAt shape 0 (32 + i) s in
       record-most r _ 3 (decoded-in-range _) (one-more _ _ 2 (owner-small 0 (32 + i) there) (two-more _ _ 0 (mask-small (r .«cpu_target_mask») (decoded-in-range _ .mask-byte)) none))
 
-  body-most : bytesOf (bodyNumbers shape s) ≤ 1155 * shape .count + 6 * (shape .limit - 32)
+  body-most : bytesOf (bodyNumbers shape s) ≤ 647 * shape .count + 6 * (shape .limit - 32)
   unfolding bodyNumbers
   body-most =
       let interfaces = each-most (interfaceNumbers shape s) (shape .count) 5 (λ v _. interface-most v) in
-      let services = each-most (serviceNumbers shape s) (shape .count) 1022 service-most in
+      let services = each-most (serviceNumbers shape s) (shape .count) 514 service-most in
       let privates = each-most (λ v. each (privateNumbersAt shape s v) 32) (shape .count) 128 (λ v _. private-most v) in
       let spis = each-most (spiNumbersAt shape s) (shape .limit - 32) 6 spi-most in
       simp spelled-append (simp length-append (omega arith))

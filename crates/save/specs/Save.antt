@@ -40,6 +40,6 @@ abbrev pub SavePromise : List ℕ → List ℕ → Answer → List ℕ → List 
 SavePromise s buffer answer after written = _≡_ {A = Saved} (record { outcome = outcome answer after; buffer = written }) (save s buffer)
 
 -- a room that suffices for any lawful state of the shape: 4 bytes at the start; of a vCPU 5 for its registers, 2 for its depth and 4 for
--- each of 255 entries, 5 for each SGI and 3 for each other private number; 6 for each SPI
+-- each of 128 entries, 5 for each SGI and 3 for each other private number; 6 for each SPI
 abbrev pub imageBytes : Shape → ℕ
-imageBytes shape = 4 + 1155 * shape .count + 6 * (shape .limit - 32)
+imageBytes shape = 4 + 647 * shape .count + 6 * (shape .limit - 32)

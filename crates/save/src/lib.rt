@@ -23,7 +23,7 @@ pub fn image_bytes(shape: Shape) -> usize
     requires { ⌜ Limits shape ⌝ }
     ensures { λ r. ⌜ r ≡ imageBytes shape ⌝ }
 {
-    4 + 1155 * shape.count + 6 * ((shape.limit - FIRST_SPI) as usize)
+    4 + 647 * shape.count + 6 * ((shape.limit - FIRST_SPI) as usize)
 }
 
 // Measured only where a lawful state of this shape might not fit.

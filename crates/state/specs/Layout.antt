@@ -48,9 +48,9 @@ vcpuWords = privateStart + 32
 abbrev pub firstSpi : ℕ
 firstSpi = 32
 
--- how many entries a stack has room for: "a stored service depth over 255" is refused
+-- how many entries a stack has room for: "the depths in 6 and 7 become 128" (document 02, Two)
 abbrev pub stackCapacity : ℕ
-stackCapacity = 255
+stackCapacity = 128
 
 abbrev pub vcpuStart : ℕ → ℕ
 vcpuStart v = headerWords + vcpuWords * v

@@ -1,5 +1,6 @@
 -- When lent words are a state: document 01, "Refusal numbers". 4 is for a count or limit "outside the limits above"; 6 for "stored count or
--- limit out of range, lent state shorter than they need, or a stored service depth over 255", the depth of every existing vCPU.
+-- limit out of range, lent state shorter than they need, or a stored service depth over" 128 (document 02, Two; it was 255), the depth of every
+-- existing vCPU.
 use mathlib.Core.Path.{_≡_}
 use mathlib.Core.Bool.{Bool, cond, _&&_}
 use mathlib.Core.List.{List}

@@ -25,7 +25,7 @@ pub const VCPU_WORDS: usize = PRIVATE_START + 32;
 pub const FIRST_SPI: u32 = 32;
 
 // How many entries a stack has room for.
-pub const STACK_CAPACITY: u32 = 255;
+pub const STACK_CAPACITY: u32 = 128;
 
 // The words of the largest state, of 8 vCPUs and limit 1020.
 pub const LARGEST_SIZE: usize = HEADER_WORDS

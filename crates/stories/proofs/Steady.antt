@@ -11,7 +11,7 @@ use Rattle.interrupt.specs.declared.record.InterruptRecord.{InterruptRecord}
 use Rattle.word.specs.Word.{recordOf}
 use Rattle.state.specs.declared.layout.Shape.{Shape}
 use Rattle.state.specs.declared.layout.InterfaceValue.{InterfaceValue}
-use Rattle.state.specs.declared.layout.InterfaceValue.the-variants.{Control, PriorityMask, Depth}
+use Rattle.state.specs.declared.layout.InterfaceValue.the-variants.{Control, PriorityMask, BinaryPoint, Depth}
 use Rattle.state.specs.Layout.{Slot, DistributorControl, Interface, Sources, Stack, onStack, stackCapacity}
 use Rattle.state.specs.Words.{wordAt, recordSlot, RecordThere, recordAt, sourcesAt}
 use Rattle.state.proofs.Accessors.{record-exists}
@@ -35,14 +35,15 @@ module _ {shape : Shape} {v n : ℕ} {s : List ℕ} (takes : Takes shape v n s) 
   pub takes-idle : it .active ≡ false
   takes-idle = not-true (it .active) (right-true (it .enabled && true) (not (it .active)) (takes .ready))
 
--- the slots of t's enabling: both switches, and t's priority mask
+-- the slots of t's enabling: both switches, and t's priority mask and binary point
 abbrev pub Enables : ℕ → Slot → Type 0
-Enables t x = (x ≡ DistributorControl) ⊎ ((x ≡ Interface t Control) ⊎ (x ≡ Interface t PriorityMask))
+Enables t x = (x ≡ DistributorControl) ⊎ ((x ≡ Interface t Control) ⊎ ((x ≡ Interface t PriorityMask) ⊎ (x ≡ Interface t BinaryPoint)))
 
 pub each-enables : (t : ℕ) (P : Slot → Type 0) → P DistributorControl → ((k : InterfaceValue) → onStack (Interface t k) ≡ false → P (Interface t k)) → (x : Slot) → Enables t x → P x
 each-enables t P switch values x (inl p) = subst P (sym p) switch
 each-enables t P switch values x (inr (inl p)) = subst P (sym p) (values Control refl)
-each-enables t P switch values x (inr (inr p)) = subst P (sym p) (values PriorityMask refl)
+each-enables t P switch values x (inr (inr (inl p))) = subst P (sym p) (values PriorityMask refl)
+each-enables t P switch values x (inr (inr (inr p))) = subst P (sym p) (values BinaryPoint refl)
 
 pub record Steady (shape : Shape) (t n : ℕ) (s r : List ℕ) : Type 0 where
   pub enabling : Agree shape (Enables t) r s
@@ -72,8 +73,8 @@ module _ {shape : Shape} {t n : ℕ} where
       on = on-same ∙ takes .on;
       for-it = simp (lt-ltb n 32 (omega (arith, sgi)));
       ready = simp (steady .enabled, takes-enabled takes, idle);
-      unmasked = rw (steady .priority, steady .enabling .agree (Interface t PriorityMask) exists (inr (inr refl))) (takes .unmasked);
-      preempts = rw (steady .priority, stack) (takes .preempts);
+      unmasked = rw (steady .priority, steady .enabling .agree (Interface t PriorityMask) exists (inr (inr (inl refl)))) (takes .unmasked);
+      preempts = rw (steady .priority, stack, steady .enabling .agree (Interface t BinaryPoint) exists (inr (inr (inr refl)))) (takes .preempts);
     }
 
 -- calls elsewhere

@@ -17,11 +17,11 @@ use Rattle.state.specs.Words.{recordAt}
 use Rattle.select.specs.declared.Candidate.{Candidate}
 use Rattle.select.specs.declared.Selected.{Selected}
 use Rattle.select.specs.declared.Selected.the-variants.{Best, Nothing}
-use Rattle.select.specs.Select.{candidate, candidateFor, IsBest}
+use Rattle.select.specs.Select.{candidate, candidateFor, bothOn, IsBest}
 use Rattle.select.proofs.Meaning.{candidate-idle, best-is, is-best}
 use Rattle.service.specs.Service.{depthAt}
 use Rattle.acknowledge.specs.Acknowledge as acknowledge-of
-use Rattle.acknowledge.specs.Acknowledge.{offer, sourceOf, given}
+use Rattle.acknowledge.specs.Acknowledge.{preempts, offer, sourceOf, given}
 use Rattle.acknowledge.proofs.Offers.{offer-is, is-offer}
 use Rattle.wake.specs.Halves.{isSome, ready}
 use Rattle.wake.specs.Wake.{isSpurious, givesNumber, woken, wakeSet}
@@ -48,22 +48,19 @@ right-false : (a b : Bool) → (a || b) ≡ false → b ≡ false
 right-false true b e = absurd (true≢false e)
 right-false false b e = e
 
+-- a candidate that preempts what runs
 module _ (shape : Shape) (v n : ℕ) (s : List ℕ) (h : Controls shape s) (exists : v < shape .count) (numbered : n < shape .limit)
-    (takes : Takes shape v n s) (pending : recordAt shape v n s .pending ≡ true) where
+    (on : bothOn shape v s ≡ true) (chosen : candidate shape v s n ≡ true) (ahead : preempts shape v s (candidateFor shape v s n) ≡ true) where
   abbrev pub it : Candidate
   it = candidateFor shape v s n
 
-  is-candidate : candidate shape v s n ≡ true
-  unfolding candidate
-  is-candidate = simp (takes .for-it, pending, takes .ready, lt-ltb _ _ (takes .unmasked))
-
   -- whatever else waits, something is handed out
   is-ready : ready shape v s ≡ true
-  is-ready = preempting-ready shape v s n numbered is-candidate (takes .preempts) (takes .on)
+  is-ready = preempting-ready shape v s n numbered chosen ahead on
 
-  pub is-number : givesNumber (acknowledge-of.acknowledge shape v s) ≡ true
+  pub candidate-number : givesNumber (acknowledge-of.acknowledge shape v s) ≡ true
   unfolding ready
-  is-number = ready-number shape v s (h .lawful .in-range .state .limits) ∙ simp (is-ready, lt-ltb (depthAt shape v s) stackCapacity (room (offer shape v s) refl))
+  candidate-number = ready-number shape v s (h .lawful .in-range .state .limits) ∙ simp (is-ready, lt-ltb (depthAt shape v s) stackCapacity (room (offer shape v s) refl))
     where
       room : (b : Selected) → offer shape v s ≡ b → depthAt shape v s < stackCapacity
       room Nothing p = absurd (true≢false (sym is-ready ∙ ap isSome p))
@@ -78,23 +75,39 @@ module _ (shape : Shape) (v n : ℕ) (s : List ℕ) (h : Controls shape s) (exis
     unfolding priority
     foremost = record {
       below = numbered;
-      chosen = is-candidate;
+      chosen = chosen;
       priority = refl;
       smallest = λ m b c. ltb-false (recordAt shape v m s .priority .0) (recordAt shape v n s .priority .0) (left-false _ _ (none m b c));
       first = λ m b c e. ltb-false m n (simp (eq-eqb (priority m) (priority n) e) at (right-false (ltb (priority m) (priority n)) (eqb (priority m) (priority n) && ltb m n) (none m b c)));
     }
 
     offered : offer shape v s ≡ Best it
-    offered = is-offer shape v s it (record { on = takes .on; best-one = is-best shape v s it foremost; preempting-one = takes .preempts })
+    offered = is-offer shape v s it (record { on = on; best-one = is-best shape v s it foremost; preempting-one = ahead })
 
-    pub given-move : Giving shape v it s
-    given-move = record { exists = exists; offered = offered; room = offer-room shape v s (h .lawful .orderly) exists it offered }
+    pub candidate-move : Giving shape v it s
+    candidate-move = record { exists = exists; offered = offered; room = offer-room shape v s (h .lawful .orderly) exists it offered }
 
-    pub given-call : called (iarRead v) s ≡ gave (n + 1024 * sourceOf shape v n s) (given shape v it s)
-    given-call =
-        let room = given-move .room in
+    pub candidate-call : called (iarRead v) s ≡ gave (n + 1024 * sourceOf shape v n s) (given shape v it s)
+    candidate-call =
+        let room = candidate-move .room in
         let lent = served shape s (lawful-sound (h .lawful)) v exists in
         acknowledge-call shape s h v exists ∙ simp (acknowledge-is shape v s lent it offered room, acknowledged-is shape v s lent it offered room)
+
+-- one that it can take, and that is pending, is such a candidate
+module _ (shape : Shape) (v n : ℕ) (s : List ℕ) (h : Controls shape s) (exists : v < shape .count) (numbered : n < shape .limit)
+    (takes : Takes shape v n s) (pending : recordAt shape v n s .pending ≡ true) where
+  is-candidate : candidate shape v s n ≡ true
+  unfolding candidate
+  is-candidate = simp (takes .for-it, pending, takes .ready, lt-ltb _ _ (takes .unmasked))
+
+  pub is-number : givesNumber (acknowledge-of.acknowledge shape v s) ≡ true
+  is-number = candidate-number shape v n s h exists numbered (takes .on) is-candidate (takes .preempts)
+
+  pub given-move : NoneAhead shape v n s → Giving shape v (candidateFor shape v s n) s
+  given-move = candidate-move shape v n s h exists numbered (takes .on) is-candidate (takes .preempts)
+
+  pub given-call : NoneAhead shape v n s → called (iarRead v) s ≡ gave (n + 1024 * sourceOf shape v n s) (given shape v (candidateFor shape v s n) s)
+  given-call = candidate-call shape v n s h exists numbered (takes .on) is-candidate (takes .preempts)
 
 -- an active interrupt is not handed out
 pub active-waits : (shape : Shape) (v n : ℕ) (s : List ℕ) → Controls shape s → v < shape .count → n < 1020 → recordAt shape v n s .active ≡ true

@@ -22,6 +22,7 @@ use Rattle.select.specs.Select.{candidateFor}
 use Rattle.sgi.proofs.Rings.{joined-some}
 use Rattle.service.specs.Service.{depthAt, stackAt, isNewest, Served}
 use Rattle.acknowledge.specs.Acknowledge.{lowestSource, sourceOf, givenRecord, pushedFor, given, Givable}
+use Rattle.acknowledge.proofs.Offers.{group-byte}
 use Rattle.end.specs.End.{eoiMode, retired, deactivated, ended, endRetired}
 use Rattle.delivery.proofs.Deactivation.{deactivated-record, deactivated-stacks}
 use Rattle.delivery.proofs.Ended.{ended-stack, ended-record, ended-retired}
@@ -160,17 +161,17 @@ module _ (h : TwoRings) (z : Sleeping h) where
     state : called (iarRead t) s .state ≡ given shape t taken s
     state = ap (λ (o : Outcome). o .state) gives
 
-    serves : (y : ℕ) → mergedSources false x (2 ^ lowestSource x) ≡ y → (y ≡ 0 → ⊥) → Serves (pushedFor taken ∷ stackAt shape t base) (recordAt shape t n s) y (called (iarRead t) s .state)
+    serves : (y : ℕ) → mergedSources false x (2 ^ lowestSource x) ≡ y → (y ≡ 0 → ⊥) → Serves (pushedFor shape t s taken ∷ stackAt shape t base) (recordAt shape t n s) y (called (iarRead t) s .state)
     serves y left more = record {
       controls = every-other-call shape (iarRead t) refl s (w .controls);
       steady = then-steady (w .steady) (rw state (given-steady shape t taken s given-lent sgi));
-      stack = rw state (given-stack shape t taken s given-lent (omega (arith, sgi)) byte ∙ ap (λ (es : List Entry). pushedFor taken ∷ es) (w .stack));
+      stack = rw state (given-stack shape t taken s given-lent (omega (arith, sgi)) byte ∙ ap (λ (es : List Entry). pushedFor shape t s taken ∷ es) (w .stack));
       pends = rw state (given-left shape t taken s given-lent sgi (λ p. more (sym left ∙ sym left-is ∙ p)));
       sources = rw state (left-is ∙ left);
     }
       where
-        byte : pushedFor taken .priority .0 < 256
-        byte = decoded-in-range (wordAt shape (recordSlot t n) s) .priority-byte
+        byte : pushedFor shape t s taken .priority .0 < 256
+        byte = group-byte shape t s taken (decoded-in-range (wordAt shape (recordSlot t n) s) .priority-byte)
 
   -- EOIR: the stack is as at first
   module _ (e : Entry) (r : InterruptRecord) (x : ℕ) (s : List ℕ) (is : e .intid .0 ≡ n) (w : Serves (e ∷ stackAt shape t base) r x s) where
@@ -280,7 +281,7 @@ module _ (h : TwoRings) (z : Sleeping h) where
   high-some e = omega (arith, e, pow-pos high)
 
   abbrev first : Entry
-  first = pushedFor (candidateFor shape t (story.bothWait h) n)
+  first = pushedFor shape t (story.bothWait h) (candidateFor shape t (story.bothWait h) n)
 
   first-gives : story.firstRead h ≡ gave (n + 1024 * lowestSource (pair (h .one) (h .other))) (given shape t (candidateFor shape t (story.bothWait h) n) (story.bothWait h))
   first-gives = gives _ _ (joined-some (bitOr 0 (2 ^ h .one)) (h .other)) both-wait (z .none-ahead₁)

@@ -26,9 +26,11 @@ use Rattle.history.proofs.Always.{a-fresh-controller, same-controller}
 use Rattle.corners.specs.Corners.{zeros}
 use Rattle.corners.proofs.Started.{started, setup-started, computing}
 use Rattle.stories.specs.Stories.{Takes, ahead, NoneAhead, TwoRings, bothWait, firstRead, oneWaits, secondRead, Sleeping, PulseInFlight, turn, readAgain, InService}
+use Rattle.handlers.specs.Handlers.{ownGroup, nextRead, later, Runs, Urgent}
+use Rattle.handlers.proofs.Shielded.{a-handler-is-shielded}
 use Rattle.stories.proofs.TwoRings.{both-given}
 use Rattle.stories.proofs.PulseInFlight.{given-again}
-use Rattle.story_examples.specs.Examples.{lent, afterCalls, beforeRings, twoRingsFrom, ringsExample, beforePulse, pulseInFlightFrom, pulseExample}
+use Rattle.story_examples.specs.Examples.{lent, afterCalls, beforeRings, twoRingsFrom, ringsExample, beforePulse, pulseInFlightFrom, pulseExample, beforeHandler, neighbourRings, urgentRings, handlerFrom, handlerExample}
 
 -- the words after a setup and calls, from the state that setup leaves built once
 module _ (count limit : ℕ) (cs : List Call) where
@@ -185,3 +187,56 @@ served = subst (λ (s : List ℕ). InService (pulseInFlightFrom s)) (same-words 
 pub read-again : readAgain pulseExample .value ≡ 33
 unfolding pulseInFlightFrom
 read-again = given-again pulseExample served .given-again
+
+-- a handler
+abbrev beforeIt : List ℕ
+beforeIt = begun 2 36 beforeHandler
+
+handler-controls : Controls (shaped 2 36) beforeIt
+unfolding zeros beforeHandler
+handler-controls = controls 2 36 beforeHandler refl refl refl
+
+neighbour-runs : Runs (handlerFrom neighbourRings beforeIt)
+unfolding run zeros beforeHandler neighbourRings computing
+neighbour-runs = record { controls = handler-controls; exists = omega arith; numbered = omega arith; given = refl; unended = refl }
+
+urgent-runs : Runs (handlerFrom urgentRings beforeIt)
+unfolding run zeros beforeHandler urgentRings computing
+urgent-runs = record { controls = handler-controls; exists = omega arith; numbered = omega arith; given = refl; unended = refl }
+
+urgent-turn : tested (shaped 2 36) 0 35 (later (handlerFrom urgentRings beforeIt)) ≡ true
+unfolding run zeros beforeHandler urgentRings computing
+urgent-turn = refl
+
+urgent-waits : Urgent (handlerFrom urgentRings beforeIt) 35
+unfolding run zeros beforeHandler urgentRings computing
+urgent-waits = record { numbered = omega arith; on = refl; waits = refl; none-ahead = none-ahead (shaped 2 36) 0 35 (later (handlerFrom urgentRings beforeIt)) urgent-turn; smaller = omega arith }
+
+neighbour-at : (ownGroup (handlerFrom neighbourRings beforeIt) ≡ 0x40) × (nextRead (handlerFrom neighbourRings beforeIt) .value ≡ 1023)
+unfolding run zeros beforeHandler neighbourRings computing
+neighbour-at = (refl, refl)
+
+urgent-at : nextRead (handlerFrom urgentRings beforeIt) .value ≡ 35
+unfolding run zeros beforeHandler urgentRings computing
+urgent-at = a-handler-is-shielded (handlerFrom urgentRings beforeIt) urgent-runs .urgent-given 35 urgent-waits
+
+handler-words : beforeIt ≡ afterCalls 2 36 beforeHandler
+unfolding zeros
+handler-words = same-words 2 36 beforeHandler refl refl
+
+pub neighbour-running : Runs (handlerExample neighbourRings)
+neighbour-running = subst (λ (s : List ℕ). Runs (handlerFrom neighbourRings s)) handler-words neighbour-runs
+
+pub urgent-running : Runs (handlerExample urgentRings)
+urgent-running = subst (λ (s : List ℕ). Runs (handlerFrom urgentRings s)) handler-words urgent-runs
+
+-- 0x47 is of group 0x40, and while it runs SPI 34, of 0x41, waits
+pub own-group : ownGroup (handlerExample neighbourRings) ≡ 0x40
+own-group = subst (λ (s : List ℕ). ownGroup (handlerFrom neighbourRings s) ≡ 0x40) handler-words (neighbour-at .0)
+
+pub neighbour-waits : nextRead (handlerExample neighbourRings) .value ≡ 1023
+neighbour-waits = subst (λ (s : List ℕ). nextRead (handlerFrom neighbourRings s) .value ≡ 1023) handler-words (neighbour-at .1)
+
+-- SPI 35, of 0x3f, is given
+pub urgent-read : nextRead (handlerExample urgentRings) .value ≡ 35
+urgent-read = subst (λ (s : List ℕ). nextRead (handlerFrom urgentRings s) .value ≡ 35) handler-words urgent-at

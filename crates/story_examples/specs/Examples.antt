@@ -1,4 +1,4 @@
--- An example of each story of crates/stories, so that a reader need not wonder whether its hypotheses can hold. Each starts from a fresh
+-- An example of each story of crates/stories and crates/handlers, so that a reader need not wonder whether its hypotheses can hold. Each starts from a fresh
 -- controller, in words that were 0 and are just enough.
 use mathlib.Core.List.{List, [], _∷_}
 use Prim.Native.Nat.{ℕ}
@@ -8,6 +8,7 @@ use Rattle.state.specs.Lent.{shaped}
 use Rattle.history.specs.History.{Call, Setup, ReadDistributor, WriteDistributor, ReadCpuInterface, WriteCpuInterface, Pulse, run, sgirWrite, iarRead}
 use Rattle.corners.specs.Corners.{zeros}
 use Rattle.stories.specs.Stories.{TwoRings, PulseInFlight}
+use Rattle.handlers.specs.Handlers.{Handler}
 
 abbrev pub lent : ℕ → ℕ → List ℕ
 lent count limit = zeros (size (shaped count limit))
@@ -81,3 +82,31 @@ pulseInFlightFrom s = record {
 
 abbrev pub pulseExample : PulseInFlight
 pulseExample = pulseInFlightFrom (afterCalls 1 34 beforePulse)
+
+-- The kernel's handler. Before it all is turned on and vCPU 0 sets its binary point to 2, as the kernel does; SPIs 33, 34 and 35 are vCPU 0's and
+-- enabled, with priorities 0x47, 0x41 and 0x3f: by 2 the first two are of group 0x40, the third of 0x38. SPI 33 is pulsed.
+unfoldable pub beforeHandler : List Call
+beforeHandler =
+    WriteDistributor 0 0x000 Dword 1
+    ∷ WriteCpuInterface 0 0x00 Dword 1
+    ∷ WriteCpuInterface 0 0x04 Dword 255
+    ∷ WriteCpuInterface 0 0x08 Dword 2
+    ∷ WriteDistributor 0 0x420 Dword 0x3f414700
+    ∷ WriteDistributor 0 0x820 Dword 0x01010100
+    ∷ WriteDistributor 0 0x104 Dword 0xe
+    ∷ Pulse 0 33
+    ∷ []
+
+-- While it runs its neighbour SPI 34 is pulsed; vCPU 0 acknowledges and writes 34 to EOIR, both in vain, and vCPU 1 sets its own binary point.
+unfoldable pub neighbourRings : List Call
+neighbourRings = Pulse 0 34 ∷ iarRead 0 ∷ WriteCpuInterface 0 0x10 Dword 34 ∷ WriteCpuInterface 1 0x08 Dword 0 ∷ []
+
+-- .. and SPI 35 too
+unfoldable pub urgentRings : List Call
+urgentRings = Pulse 0 34 ∷ iarRead 0 ∷ Pulse 0 35 ∷ []
+
+abbrev pub handlerFrom : List Call → List ℕ → Handler
+handlerFrom meanwhile s = record { shape = shaped 2 36; words = s; vcpu = 0; interrupt = 33; source = 0; meanwhile = meanwhile }
+
+abbrev pub handlerExample : List Call → Handler
+handlerExample meanwhile = handlerFrom meanwhile (afterCalls 2 36 beforeHandler)

@@ -70,6 +70,16 @@ acknowledge-cases shape s h v looked P none =
     each-acknowledge shape s (lawful-sound (h .lawful)) v looked (λ a r. P (readAnswer a s r)) none
     (λ e exists p full. absurd (omega (arith, full, offer-room shape v s (h .lawful .orderly) exists e p)))
 
+-- what each call keeps that is none of these, a history without them keeps
+pub never-keeps : (f : List ℕ → Call → Outcome → Bool) (P : List ℕ → Type 0) → ((c : Call) (s : List ℕ) → P s → f s c (called c s) ≡ false → P (called c s .state))
+    → (cs : List Call) (s : List ℕ) → P s → never f cs s ≡ true → P (run cs s)
+unfolding run
+never-keeps f P keeps [] s p e = p
+never-keeps f P keeps (c ∷ cs) s p e =
+    let taken : Bool = f s c (called c s) in
+    let after : List ℕ = called c s .state in
+    never-keeps f P keeps cs after (keeps c s p (not-true taken (left-true (not taken) (never f cs after) e))) (right-true (not taken) (never f cs after) e)
+
 -- calls that take it, by their kind
 abbrev pub taking : (List ℕ → Taker) → List ℕ → Call → Outcome → Bool
 taking taker s c o = takenBy (taker s) (deed c) o
@@ -84,16 +94,8 @@ module _ (taker : List ℕ → Taker) where
   call-controls {shape} c s h =
       start-or-act (λ d. taking taker s d (called d s) ≡ false → Controls shape (called d s .state)) (refused-start (Controls shape) s h) (λ d other e. every-other-call shape d other s h) c
 
-  spared : (c : Call) (cs : List Call) (s : List ℕ) → never (taking taker) (c ∷ cs) s ≡ true → taking taker s c (called c s) ≡ false
-  spared c cs s e = not-true (taking taker s c (called c s)) (left-true (not (taking taker s c (called c s))) (never (taking taker) cs (called c s .state)) e)
-
-  later : (c : Call) (cs : List Call) (s : List ℕ) → never (taking taker) (c ∷ cs) s ≡ true → never (taking taker) cs (called c s .state) ≡ true
-  later c cs s e = right-true (not (taking taker s c (called c s))) (never (taking taker) cs (called c s .state)) e
-
   pub history-controls : {shape : Shape} (cs : List Call) (s : List ℕ) → Controls shape s → never (taking taker) cs s ≡ true → Controls shape (run cs s)
-  unfolding run
-  history-controls [] s h e = h
-  history-controls (c ∷ cs) s h e = history-controls cs (called c s .state) (call-controls c s h (spared c cs s e)) (later c cs s e)
+  history-controls {shape} = never-keeps (taking taker) (Controls shape) call-controls
 
 -- all that is asked of what waits in controllers of this shape: `holds` of a state, `takes` of a call in a state, `Spares` of a move in a state
 pub record Waits (shape : Shape) (holds : List ℕ → Bool) (taker : List ℕ → Taker) (Spares : Move → List ℕ → Type 0) : Type 0 where
@@ -136,7 +138,5 @@ module _ {shape : Shape} {holds : List ℕ → Bool} {taker : List ℕ → Taker
       start-or-act (λ d. taking taker s d (called d s) ≡ false → holds (called d s .state) ≡ true) (refused-start taker (λ r. holds r ≡ true) s now) (other-stays s h now) c
 
   pub history-keeps : (cs : List Call) (s : List ℕ) → Controls shape s → holds s ≡ true → never (taking taker) cs s ≡ true → holds (run cs s) ≡ true
-  unfolding run
-  history-keeps [] s h now e = now
-  history-keeps (c ∷ cs) s h now e =
-      history-keeps cs (called c s .state) (call-controls taker c s h (spared taker c cs s e)) (call-keeps c s h now (spared taker c cs s e)) (later taker c cs s e)
+  history-keeps cs s h now e =
+      never-keeps (taking taker) (λ r. Controls shape r × (holds r ≡ true)) (λ c r p q. (call-controls taker c r (p .0) q, call-keeps c r (p .0) (p .1) q)) cs s (h, now) e .1

@@ -7,7 +7,9 @@ use native.Mathlib.Omega.{arith}
 use lib.Dec.{eqb, ltb}
 use borrow.Author.Tests.{ltb-true, lt-ltb, ne-eqb}
 use Rattle.state.specs.declared.layout.Shape.{Shape}
+use Rattle.state.specs.declared.layout.InterfaceValue.the-variants.{BinaryPoint}
 use Rattle.state.specs.Layout.{Limits, stackCapacity}
+use Rattle.state.specs.Words.{interfaceAt}
 use Rattle.select.specs.declared.Candidate.{Candidate}
 use Rattle.select.specs.declared.Selected.{Selected}
 use Rattle.select.specs.declared.Selected.the-variants.{Best, Nothing}
@@ -15,7 +17,8 @@ use Rattle.select.specs.Select.{candidate, candidateFor, best, bothOn}
 use Rattle.select.proofs.Meaning.{best-is, none-is}
 use Rattle.service.specs.Service.{depthAt, running}
 use Rattle.acknowledge.specs.declared.Read.the-variants.{Value, StackFull}
-use Rattle.acknowledge.specs.Acknowledge.{preempts, preempting, offer, sourceOf, answered, acknowledge}
+use Rattle.acknowledge.specs.Acknowledge.{groupOf, preempts, preempting, offer, sourceOf, answered, acknowledge}
+use Rattle.acknowledge.proofs.Grouping.{group-in-order}
 use Rattle.acknowledge.proofs.Offers.{offer-below}
 use Rattle.wake.specs.Halves.{isSome, ready}
 use Rattle.wake.specs.Wake.{isSpurious, givesNumber}
@@ -26,9 +29,9 @@ module _ (shape : Shape) (v : ℕ) (s : List ℕ) where
     some-preempting : (b : Selected) → best shape v s ≡ b → isSome (preempting shape v s b) ≡ true
     some-preempting Nothing p = absurd (true≢false (sym chosen ∙ none-is shape v s p n below))
     some-preempting (Best c) p =
-        let first = best-is shape v s c p .smallest n below chosen in
-        let under = ltb-true (candidateFor shape v s n .priority .0) (running shape v s) ahead in
-        simp (lt-ltb (c .priority .0) (running shape v s) (omega (arith, first, under)))
+        let first = group-in-order (interfaceAt shape v BinaryPoint s) (c .priority .0) (candidateFor shape v s n .priority .0) (best-is shape v s c p .smallest n below chosen) in
+        let under = ltb-true (groupOf shape v s (candidateFor shape v s n)) (running shape v s) ahead in
+        simp (lt-ltb (groupOf shape v s c) (running shape v s) (omega (arith, first, under)))
 
     pub preempting-ready : bothOn shape v s ≡ true → ready shape v s ≡ true
     unfolding ready offer

@@ -34,7 +34,7 @@ pub enum Refusal {
     ShortState,
     /// 6: the lent words are no controller's state.
     BrokenState,
-    /// 7: an interrupt cannot be acknowledged, since 255 are under service.
+    /// 7: an interrupt cannot be acknowledged, since 128 are under service.
     FullStack,
     /// 8: no device has this number: it is an SGI's, or not below the limit.
     Input,
@@ -114,7 +114,7 @@ impl fmt::Display for Refusal {
             Self::Limits => "the count or the limit is out of range",
             Self::ShortState => "the lent state is too short",
             Self::BrokenState => "the lent words are no controller's state",
-            Self::FullStack => "255 interrupts are under service",
+            Self::FullStack => "128 interrupts are under service",
             Self::Input => "no device has this number",
             Self::Image => "the bytes are no image, or the words of no controller in use",
             Self::Room => "the buffer is too short for the image",

@@ -1,17 +1,17 @@
 //! How many words a state takes: `docs/STATE.md`, "Size".
 
 /// The layout of the words. It changes when a kept state of an earlier version means something else, so keep it beside words that you keep.
-pub const LAYOUT: u32 = 1;
+pub const LAYOUT: u32 = 2;
 
 /// The most words that a state takes: those of 8 vCPUs and a limit of 1020.
-pub const MAX_STATE_WORDS: usize = 3447;
+pub const MAX_STATE_WORDS: usize = 2431;
 
 /// In front: count, limit, CTLR of the Distributor.
 const HEADER: u64 = 3;
 /// For each vCPU: 4 values of its CPU interface, 16 source sets, 32 records.
 const VCPU: u64 = 52;
 /// For each vCPU: its stack.
-const STACK: u64 = 255;
+const STACK: u64 = 128;
 /// The numbers below are private; each SPI, from here on, has a record.
 const SPIS: u64 = 32;
 
@@ -21,7 +21,7 @@ const SPIS: u64 = 32;
 /// ```
 /// const WORDS: usize = vgic::state_words(2, 40).expect("in range");
 /// let words = [0_u32; WORDS];
-/// assert_eq!(words.len(), 625);
+/// assert_eq!(words.len(), 371);
 /// ```
 ///
 /// ```compile_fail,E0080

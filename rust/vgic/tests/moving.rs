@@ -105,6 +105,10 @@ fn what_is_no_image() {
     refused(&mut there, &longer, Refusal::Image);
     let stretched = [&[0x82, 0], &image[1..]].concat();
     refused(&mut there, &stretched, Refusal::Image);
+    let mut odd = image.clone();
+    assert_eq!(odd[11..15], [1, 33, 0xa0, 1]); // SPI 33 is served at 160
+    odd[13] = 0xa1;
+    refused(&mut there, &odd, Refusal::Image);
     refused(&mut [], &image, Refusal::ShortState);
     refused(&mut there[..WORDS - 1], &image, Refusal::ShortState);
     refused(&mut there[..WORDS - 1], &longer, Refusal::Image);
@@ -128,7 +132,10 @@ fn what_is_not_saved() {
     let mut exact = vec![0; image.len()];
     assert_eq!(Gic::lend(&mut words).save(&mut exact), Ok(image.len()));
     assert_eq!(exact, image);
-    // SGI 0 pending without a source; and words that are no state, which comes first.
+    // An odd entry; SGI 0 pending without a source; and words that are no state, which comes first.
+    let mut odd = words.clone();
+    odd[WORDS - 128] += 1 << 10;
+    refused(&mut odd, MAX_IMAGE_BYTES, Refusal::Image);
     let mut pending = words.clone();
     pending[3 + 20] |= 2;
     refused(&mut pending, 0, Refusal::Image);
@@ -146,6 +153,7 @@ fn how_long_an_image_may_be() {
             assert!(bytes.unwrap_or(0) <= MAX_IMAGE_BYTES, "{count} {limit}");
         }
     }
+    assert_eq!(image_bytes(8, 1020), Some(11_108));
     for large in [(1 << 16) + 40, (1 << 32) + 1, (1 << 32) + 40, u64::MAX] {
         for (count, limit) in [(large, 40), (1, large), (large, large)] {
             assert_eq!(image_bytes(count, limit), None, "{count} {limit}");
@@ -157,7 +165,7 @@ fn how_long_an_image_may_be() {
 fn longest(count: usize, limit: usize) -> Vec<u32> {
     let mut words = vec![count as u32, limit as u32, 1];
     for _ in 0..count {
-        words.extend([0x201, 255, 7, 255]);
+        words.extend([0x201, 255, 7, 128]);
         words.extend([255; 16]);
         words.extend([0xff43; 16]);
         words.extend([0xff7f - 0x18; 16]);
@@ -165,11 +173,8 @@ fn longest(count: usize, limit: usize) -> Vec<u32> {
     let targets = (1 << count) - 1;
     words.resize(words.len() + limit - 32, 0xffe7 | targets << 16);
     for _ in 0..count {
-        words.extend(
-            (0..255)
-                .rev()
-                .map(|priority| priority << 10 | (limit as u32 - 1)),
-        );
+        let even = (0..128).rev().map(|half| 2 * half);
+        words.extend(even.map(|priority| priority << 10 | (limit as u32 - 1)));
     }
     words
 }

@@ -89,12 +89,12 @@ fn with_the_distributor_off_every_line_is_down_and_no_stranger_has_one() {
     }
 }
 
-/// Words that no history makes: vCPU 1 serves 255 interrupts, the newest two SGIs 6 and 5, and SPI 33, which is above both, is up.
+/// Words that no history makes: vCPU 1 serves 128 interrupts, the newest two SGIs 6 and 5, and SPI 33, which is above both, is up.
 fn full() -> [u32; WORDS] {
     let mut words = ready();
     Gic::lend(&mut words).set_level(FIRST, SPI, true).unwrap();
     let depth = 3 + 52 + 3;
-    words[depth] = 255;
+    words[depth] = 128;
     words[WORDS - 2] = 6 | 200 << 10;
     words[WORDS - 1] = 5 | 128 << 10;
     words
@@ -186,7 +186,7 @@ fn a_fresh_sgi_and_a_stranger() {
 #[test]
 fn words_that_are_no_state() {
     let mut broken = ready();
-    broken[3 + 3] = 256;
+    broken[3 + 3] = 129;
     for words in [
         &mut broken[..],
         &mut [],

@@ -62,8 +62,8 @@ fn setup() {
     refused(&mut words, Refusal::Limits, fresh(0, 40));
     refused(&mut words, Refusal::Limits, fresh(1, 1021));
     refused(&mut words, Refusal::ShortState, fresh(2, 40));
-    refused(&mut words[..317], Refusal::ShortState, fresh(1, 40));
-    assert_eq!((state_words(1, 40), state_words(9, 40)), (Some(318), None));
+    refused(&mut words[..190], Refusal::ShortState, fresh(1, 40));
+    assert_eq!((state_words(1, 40), state_words(9, 40)), (Some(191), None));
 }
 
 #[test]
@@ -72,15 +72,15 @@ fn words_that_are_no_state() {
         vec![],
         vec![1],
         vec![1, 40],
-        vec![u32::MAX; 318],
-        ready()[..317].to_vec(),
+        vec![u32::MAX; 191],
+        ready()[..190].to_vec(),
     ] {
         refused(&mut words, Refusal::BrokenState, |gic| {
             gic.read_v2_cpu_interface(FIRST, offset::GICC_IAR, Dword)
         });
     }
     let mut deep = ready();
-    deep[3 + 3] = 256;
+    deep[3 + 3] = 129;
     refused(&mut deep, Refusal::BrokenState, |gic| {
         gic.pulse(FIRST, IntId(33))
     });
@@ -89,9 +89,9 @@ fn words_that_are_no_state() {
 #[test]
 fn a_full_stack() {
     let mut full = ready();
-    let stack = full.len() - 255;
-    full[3 + 3] = 255;
-    full[stack + 254] = 5 | 128 << 10; // SGI 5, at a priority that SGI 1 is above
+    let stack = full.len() - 128;
+    full[3 + 3] = 128;
+    full[stack + 127] = 5 | 128 << 10; // SGI 5, at a priority that SGI 1 is above
     refused(&mut full, Refusal::FullStack, |gic| {
         gic.read_v2_cpu_interface(FIRST, offset::GICC_IAR, Dword)
     });

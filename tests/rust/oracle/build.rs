@@ -1,12 +1,14 @@
 //! Makes the two Rust files modules of this crate.
 //!
-//! interrupt.rs is compiled as it is, with our `access` declared after its end. v2.rs is compiled with the ONE patch below and is
-//! otherwise as it is: document 01's one departure from the Rust, "its priority is below the running priority".
+//! interrupt.rs is compiled as it is, with our `access` declared after its end. v2.rs is compiled with the TWO patches below and is
+//! otherwise as it is. Each is one departure from the Rust: document 01's "its priority is below the running priority", and request Two of
+//! document 02, the binary point.
 
-/// The patch goes where a candidate has been found and nothing has been changed yet.
+/// Both go where a candidate has been found and nothing has been changed yet, the second before the first. After them v2.rs uses the
+/// candidate's priority once more: it is pushed on the stack.
 const BEFORE: &str = "        let mut delivery = state\n";
 
-const PATCH: &str = r#"        // PATCH (the only one): document 01 and IHI 0048, the running-priority test of GICC_IAR.
+const RUNNING_PRIORITY: &str = r#"        // PATCH 1 of 2: document 01 and IHI 0048, the running-priority test of GICC_IAR.
         let running = state
             .redistributor(vcpu, "read GICC_IAR")?
             .cpu_interface()
@@ -16,10 +18,20 @@ const PATCH: &str = r#"        // PATCH (the only one): document 01 and IHI 0048
         }
 "#;
 
+const GROUP_PRIORITY: &str = r#"        // PATCH 2 of 2: document 02 (Two) and IHI 0048, the group priority: with binary point b the low b+1 bits are cleared.
+        let cleared = 1 + state
+            .redistributor(vcpu, "read GICC_IAR")?
+            .cpu_interface()
+            .v2_binary_point();
+        let priority = crate::Priority((u16::from(priority.raw()) >> cleared << cleared) as u8);
+"#;
+
 fn main() {
     source::interrupt_module();
-    let v2 = source::read("src/controller/v2.rs");
-    let v2 = source::patched(&v2, "acknowledge_v2", BEFORE, PATCH)
-        .unwrap_or_else(|why| panic!("v2.rs is not the file that the patch is for: {why}"));
+    let mut v2 = source::read("src/controller/v2.rs");
+    for lines in [GROUP_PRIORITY, RUNNING_PRIORITY] {
+        v2 = source::patched(&v2, "acknowledge_v2", BEFORE, lines)
+            .unwrap_or_else(|why| panic!("v2.rs is not the file that the patches are for: {why}"));
+    }
     source::module("v2", &v2);
 }

@@ -20,7 +20,7 @@ returns : tie.Need-returns
 returns c =
     let marked = c .before .before in
     let pushed = marked .before .before .before .before in
-    let entry = pushed .before in
+    let entry = pushed .before .before in
     simp (marked .mark-inflight .ensures, pushed .push-v2-active .ensures, entry .pushed-for .ensures)
 
 pub serve-spec : {M : Type 1} → statement M

@@ -7,9 +7,9 @@ use crate::{
 use oracle::{
     RegisterRegion::{self, CpuInterface, Distributor},
     lines,
-    machine::{Answer, Call},
+    machine::{Answer, Call, SPURIOUS},
     scripts::{Histories, random::Random},
-    words::{size, within_limits},
+    words::{STACK, size, within_limits},
 };
 use std::rc::Rc;
 
@@ -107,7 +107,7 @@ impl Scenes {
         if self.random.percent(30) {
             let few = self
                 .random
-                .pick(&[0, 1, 2, 3, 99, enough - 255, enough - 1]);
+                .pick(&[0, 1, 2, 3, 99, enough - STACK, enough - 1]);
             pair.lend(self.words(few));
             pair.call(first)?;
         }
@@ -168,19 +168,28 @@ fn line<L: Library>(pair: &mut Pair<L>, line: &str) -> Result<Answer, Difference
     pair.call(&call.into())
 }
 
-/// One SGI taken 255 times, each time more urgent and cancelled under service, and then ended 255 times: the stack full from setup on.
+/// The stack as full as it gets from setup on, at each binary point.
 pub fn deepest<L: Library>(pair: &mut Pair<L>) -> Result<(), Difference> {
+    (0..8).try_for_each(|point| deepest_at(pair, point))
+}
+
+/// One SGI tried at every priority, each more urgent than the last: it is taken where a group begins, 128 times at binary point 0, and
+/// cancelled under service; and then ended as often, and once more.
+fn deepest_at<L: Library>(pair: &mut Pair<L>, point: u64) -> Result<(), Difference> {
     pair.lend(vec![u32::MAX; size(2, 40)]);
     for start in ["n 2 40", "D 0 0 4 1", "C 1 0 4 1", "C 1 4 4 255"] {
         line(pair, start)?;
     }
+    line(pair, &format!("C 1 8 4 {point}"))?;
+    let mut taken = 0;
     for priority in (0..255).rev() {
         line(pair, &format!("D 1 1027 1 {priority}"))?; // IPRIORITYR of SGI 3
         line(pair, "D 1 3840 4 33554435")?; // SGIR, to oneself
-        line(pair, "c 1 12 4")?;
+        taken += u64::from(line(pair, "c 1 12 4")?.value != SPURIOUS.into());
         line(pair, "D 1 896 4 8")?; // ICACTIVER
     }
-    for _ in 0..256 {
+    assert_eq!(taken, STACK as u64 >> point, "at binary point {point}");
+    for _ in 0..=taken {
         line(pair, "c 1 20 4")?; // RPR
         line(pair, "C 1 16 4 3")?;
     }

@@ -1,11 +1,8 @@
 //! Images: saved in the midst of histories, and of words with a bit changed; offered as they are, and changed in every way; and histories that
 //! go on with what was loaded.
-use crate::{Difference, Library, histories::Scenes, pair::Pair, request::Request};
+use crate::{Difference, Library, histories::Scenes, pair::Pair, request::Request, slots::places};
 use model::edits::{self, Edit};
-use oracle::{
-    scripts::random::Random,
-    words::{STACK, size},
-};
+use oracle::scripts::random::Random;
 
 /// So many calls of histories, saves and loads.
 pub fn play<L: Library>(pair: &mut Pair<L>, seed: u64, calls: u64) -> Result<(), Difference> {
@@ -71,7 +68,7 @@ impl Images {
         length: usize,
     ) -> Result<(), Difference> {
         let fewer = self.random.below(length as u64) as usize;
-        for room in [length, length - 1, length + 9, fewer, 0] {
+        for room in [length, 1, length - 1, length + 9, fewer, 0] {
             pair.call(&Request::Save { room })?;
         }
         Ok(())
@@ -83,11 +80,14 @@ impl Images {
         pair: &mut Pair<L>,
         words: &[u32],
     ) -> Result<(), Difference> {
-        let (count, limit) = (words[0] as usize, words[1] as usize);
-        let stacks = (size(count, limit) - STACK * count) as u64;
+        let (stacks, served) = (places(words, 0).1 as u64, served(words));
         for _ in 0..40 {
             let mut changed = words.to_vec();
             for _ in 0..self.random.pick(&[1, 1, 1, 2]) {
+                if self.random.percent(20) && !served.is_empty() {
+                    changed[self.random.pick(&served)] ^= 1 << self.random.below(18);
+                    continue;
+                }
                 let places = self.random.pick(&[stacks, stacks, words.len() as u64]);
                 changed[self.random.below(places) as usize] ^= 1 << self.random.below(32);
             }
@@ -169,6 +169,14 @@ impl Images {
         offer(pair, &image[1..])?;
         offer(pair, &[image, &[0]].concat())
     }
+}
+
+/// Where the entries stand that are on a stack.
+fn served(words: &[u32]) -> Vec<usize> {
+    let vcpus = (0..words[0].into()).map(|vcpu| places(words, vcpu));
+    vcpus
+        .flat_map(|(own, stack)| stack..stack + words[own + 3] as usize)
+        .collect()
 }
 
 fn offer<L: Library>(pair: &mut Pair<L>, image: &[u8]) -> Result<(), Difference> {

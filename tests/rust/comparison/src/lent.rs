@@ -100,7 +100,7 @@ impl Shape {
                 word &= !rarely;
             }
             if other >> 58 & 1 == 1 {
-                word = word & !0xff00 | random.pick(&[0, 0x10, 0x7f, 0x80, 0xfe, 0xff]) << 8;
+                word = word & !0xff00 | random.pick(&[0, 1, 0x10, 0x7f, 0x80, 0xfe, 0xff]) << 8;
             }
             if other >> 59 & 1 == 1 {
                 word = word & 0x00ff_ffff | (vcpu as u32 + 1) << 24;
@@ -117,7 +117,7 @@ impl Shape {
         private.chain(shared.map(move |at| (at, at % (self.count + 1))))
     }
 
-    /// Mostly on, with a high mask and a stack that a state may have; entries often of interrupts that there are.
+    /// Mostly on, with a high mask and a stack that a state may have; entries often of interrupts that there are, odd ones as often as even.
     fn tame_vcpu(self, random: &mut Random, words: &mut [u32], vcpu: usize) {
         let values = HEADER + VCPU * vcpu;
         if random.percent(85) {
@@ -125,9 +125,9 @@ impl Shape {
             words[values + 1] = words[values + 1] & !0xff | random.pick(&[255, 255, 0x80, 0xf0]);
         }
         words[values + 3] = match random.below(100) {
-            0 => random.pick(&[256, 256, 256, 257, 511, 1 << 16, 1 << 31, u32::MAX]),
-            1..12 => 255,
-            12..20 => 254,
+            0 => random.pick(&[129, 129, 129, 130, 255, 256, 1 << 16, 1 << 31, u32::MAX]),
+            1..12 => STACK as u32,
+            12..20 => STACK as u32 - 1,
             20..70 => random.below(4) as u32,
             _ => 0,
         };
@@ -188,8 +188,13 @@ impl Shape {
 
     fn interface_write(self, random: &mut Random) -> Request {
         let register = random.pick(&[GICC_CTLR, GICC_PMR, GICC_PMR, GICC_BPR, GICC_ABPR]);
-        let value = random.pick(&[0, 1, 0x201, 0x80, 255, 255, u64::MAX]);
-        let value = value | (random.number() & random.number() & random.number());
+        let value = match register {
+            GICC_BPR | GICC_ABPR => random.number(),
+            _ => {
+                let value = random.pick(&[0, 1, 0x201, 0x80, 255, 255, u64::MAX]);
+                value | (random.number() & random.number() & random.number())
+            }
+        };
         Request::Write(self.place(random, CpuInterface, register, 4), value)
     }
 

@@ -3,7 +3,7 @@
 //!
 //! `pair` makes a call of both and compares, and `question` says what is asked of both after it. `histories`, `lent` and `images` say which
 //! calls are made: histories from setup on, calls of words that no history makes, and loads of what is an image and what is none. `report`
-//! tells a difference with the calls that lead to it, and with the fewest that do.
+//! tells a difference with the calls that lead to it, and with the fewest that do. `wrong` has controllers that a comparison has to find.
 pub mod histories;
 pub mod images;
 pub mod lent;
@@ -16,6 +16,7 @@ mod slots;
 #[cfg(test)]
 mod stand_in;
 pub mod tally;
+pub mod wrong;
 
 use histories::Scenes;
 use pair::Pair;

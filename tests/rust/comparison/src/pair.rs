@@ -86,7 +86,7 @@ impl<'a, L: Library> Pair<'a, L> {
             Request::Load(image) => self.load(request, image)?,
             _ => self.call_oracle(request)?,
         };
-        self.tally.note(request, &answer);
+        self.tally.note(request, &answer, self.memory.lent());
         self.ask_after(request, &answer)?;
         Ok(answer)
     }
@@ -241,6 +241,5 @@ fn answer(it: gic::Answer) -> Answer {
 /// The oracle watches itself that a refused call, and a read that gives no interrupt, changes nothing.
 fn may_change(request: &Request, answer: &Answer) -> bool {
     let read = matches!(request, Request::Read(_));
-    let acknowledged = request.call().and_then(|call| call.acknowledged(answer));
-    answer.refusal == 0 && (!read || acknowledged.is_some())
+    answer.refusal == 0 && (!read || request.acknowledged_by(answer).is_some())
 }

@@ -39,6 +39,14 @@ impl Request {
         })
     }
 
+    /// The vCPU that this gave an interrupt to, if it is an acknowledge that gave one.
+    pub fn acknowledged_by(&self, answer: &Answer) -> Option<u64> {
+        let Self::Read(at) = self else {
+            return None;
+        };
+        self.call()?.acknowledged(answer).map(|_| at.vcpu)
+    }
+
     /// The same access at another width; other calls have none.
     pub fn at_width(self, width: u64) -> Self {
         match self {

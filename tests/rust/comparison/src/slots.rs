@@ -1,5 +1,24 @@
-//! What stands at a place of the lent words, for a reader of a difference.
+//! Where things stand in the words of a state, and for a reader of a difference what stands at a place.
 use oracle::words::{HEADER, STACK, VCPU, size, within_limits};
+
+/// A vCPU's first word, and its stack's.
+pub fn places(words: &[u32], vcpu: u64) -> (usize, usize) {
+    let (count, limit, vcpu) = (words[0] as usize, words[1] as usize, vcpu as usize);
+    let stacks = size(count, limit) - STACK * count;
+    (HEADER + VCPU * vcpu, stacks + STACK * vcpu)
+}
+
+/// The word of an interrupt's record.
+pub fn record(words: &[u32], vcpu: u64, number: usize) -> usize {
+    match number {
+        0..32 => places(words, vcpu).0 + 20 + number,
+        _ => HEADER + VCPU * words[0] as usize + number - 32,
+    }
+}
+
+pub fn binary_point(words: &[u32], vcpu: u64) -> usize {
+    words[places(words, vcpu).0 + 2] as usize % 8
+}
 
 /// `place` counts from the first lent word; before that there is none.
 pub fn name(words: &[u32], place: Option<usize>) -> String {

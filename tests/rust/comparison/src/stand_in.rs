@@ -7,7 +7,9 @@ use crate::{
     report::Case,
     request::{Request, packed},
     run,
+    slots::places,
     tally::Tally,
+    wrong::{self, Spoil},
 };
 use oracle::{
     RegisterRegion::{CpuInterface, Distributor},
@@ -16,9 +18,6 @@ use oracle::{
     words::{HEADER, STACK, VCPU, size, within_limits},
 };
 use simple::image;
-
-/// What a spoiled library does beside its call: it sees the words before, and changes answer and words.
-type Spoil = fn(&Request, &[u32], &mut u64, &mut [u32]);
 
 /// What it does to the answer of a question.
 type Lie = fn(&Question, &[u32], &mut u64);
@@ -134,7 +133,7 @@ fn what_is_equal_passes() {
     let tallies = tallies.unwrap_or_else(|case| panic!("{}", case.text()));
     for (name, tally) in &tallies[1..] {
         if *name == "images" {
-            assert!(tally.saved > 500 && tally.loaded > 2000, "{tally}");
+            assert!(tally.saved > 300 && tally.loaded > 2000, "{tally}");
             continue;
         }
         assert!(tally.calls >= CALLS / 10, "{name}: {tally}");
@@ -144,6 +143,9 @@ fn what_is_equal_passes() {
         assert!(tally.up > 500, "{name}: {tally}");
         assert!(tally.records > 500, "{name}: {tally}");
         assert!(tally.refused_questions > 500, "{name}: {tally}");
+        if ["histories", "lent words"].contains(name) {
+            assert!(tally.points.iter().all(|count| *count > 50), "{tally}");
+        }
     }
     let mut all = Tally::default();
     tallies.into_iter().for_each(|(_, tally)| all += tally);
@@ -209,7 +211,7 @@ fn a_wrong_line_is_found() {
         }
     });
     found_out(1, |question, words, given| {
-        if let (Question::IrqLevel { vcpu: 0 }, Some(255)) = (question, words.get(HEADER + 3)) {
+        if let (Question::IrqLevel { vcpu: 0 }, Some(128)) = (question, words.get(HEADER + 3)) {
             *given |= u64::from(*given >> 56 == 0);
         }
     });
@@ -330,10 +332,10 @@ fn a_popped_entry_that_is_left_is_found() {
 
 #[test]
 fn a_rule_that_only_lent_words_show_is_found() {
-    // A depth of 255 taken for too deep.
+    // A depth of 128 taken for too deep.
     found(2, |_, before, given, words| {
         let depth = before.get(HEADER + 3);
-        if depth == Some(&255) && before.len() >= size(1, 32) && before[0] == 1 {
+        if depth == Some(&128) && before.len() >= size(1, 32) && before[0] == 1 {
             words.copy_from_slice(before);
             *given = 6 << 56 | 1023 << 32;
         }
@@ -341,7 +343,7 @@ fn a_rule_that_only_lent_words_show_is_found() {
     // A vCPU's depth that is not looked at.
     found(1, |_, before, given, _| {
         let second = before.get(HEADER + VCPU + 3).copied().unwrap_or(0);
-        if before.first() == Some(&2) && second > 255 && *given >> 56 == 6 {
+        if before.first() == Some(&2) && second > 128 && *given >> 56 == 6 {
             *given = 1023 << 32;
         }
     });
@@ -401,7 +403,7 @@ fn a_wrong_save_is_found() {
 
 #[test]
 fn what_is_no_image_and_is_taken_is_found() {
-    // A byte after the end; a number in more groups than it needs; one that is cut to a byte.
+    // A byte after the end; a number in more groups than it needs; one that is cut to a bit.
     found_moving(1, |words, buffer, request| {
         match (plain(words, buffer, request), request) {
             (given, Request::Load(image)) if given >> 56 == 9 && image.last() == Some(&0) => plain(
@@ -429,10 +431,13 @@ fn what_is_no_image_and_is_taken_is_found() {
     });
     found_moving(1, |words, buffer, request| {
         match (plain(words, buffer, request), request) {
-            (given, Request::Load(image)) if given >> 56 == 9 && image.get(3) == Some(&2) => {
-                let cut = [&image[..3], &[0], &image[4..]].concat();
-                plain(words, buffer, &Request::Load(cut.into()))
-            }
+            (given, Request::Load(image)) if given >> 56 == 9 => match image[..] {
+                [_, _, _, number @ (2 | 3), ref rest @ ..] => {
+                    let cut = [&image[..3], &[number & 1], rest].concat();
+                    plain(words, buffer, &Request::Load(cut.into()))
+                }
+                _ => given,
+            },
             (given, _) => given,
         }
     });
@@ -470,11 +475,20 @@ fn a_wrong_load_is_found() {
     });
 }
 
-/// The vCPU's first word, and its stack's.
-fn places(words: &[u32], vcpu: u64) -> (usize, usize) {
-    let (count, limit, vcpu) = (words[0] as usize, words[1] as usize, vcpu as usize);
-    let stacks = size(count, limit) - STACK * count;
-    (HEADER + VCPU * vcpu, stacks + STACK * vcpu)
+#[test]
+fn a_wrong_binary_point_is_found() {
+    for wrong::Controller {
+        what,
+        at_most,
+        spoil,
+    } in wrong::CONTROLLERS
+    {
+        let sound = StandIn::SOUND;
+        let library = StandIn { spoil, ..sound };
+        let case = run(&library, 1, CALLS).expect_err(what).shrunk(&library);
+        let calls = case.requests.len();
+        assert!(calls <= at_most, "{what}: {calls}\n{}", case.text());
+    }
 }
 
 // What document 01 calls tempting and wrong.

@@ -1,5 +1,5 @@
 //! How much was compared.
-use crate::{question::Question, request::Request};
+use crate::{question::Question, request::Request, slots};
 use oracle::machine::{Answer, SPURIOUS};
 use std::{fmt, ops::AddAssign};
 
@@ -7,6 +7,8 @@ use std::{fmt, ops::AddAssign};
 pub struct Tally {
     pub calls: u64,
     pub acknowledges: u64,
+    /// Acknowledges by the binary point that the vCPU has.
+    pub points: [u64; 8],
     pub retirements: u64,
     pub wakes: u64,
     /// Answers by their refusal, 0 for none.
@@ -23,10 +25,13 @@ pub struct Tally {
 }
 
 impl Tally {
-    pub fn note(&mut self, request: &Request, answer: &Answer) {
-        let acknowledged = request.call().and_then(|call| call.acknowledged(answer));
+    /// The words are those after the call.
+    pub fn note(&mut self, request: &Request, answer: &Answer, words: &[u32]) {
         self.calls += 1;
-        self.acknowledges += u64::from(acknowledged.is_some());
+        if let Some(vcpu) = request.acknowledged_by(answer) {
+            self.acknowledges += 1;
+            self.points[slots::binary_point(words, vcpu)] += 1;
+        }
         self.retirements += u64::from(answer.retired != SPURIOUS);
         self.wakes += u64::from(answer.wake != 0);
         self.refusals[usize::from(answer.refusal)] += 1;
@@ -39,6 +44,11 @@ impl Tally {
             }
             _ => {}
         }
+    }
+
+    /// The first binary point at which nothing was acknowledged, if there is one.
+    pub fn missing_point(&self) -> Option<usize> {
+        self.points.iter().position(|count| *count == 0)
     }
 
     pub fn note_question(&mut self, question: &Question, answer: &Answer) {
@@ -56,6 +66,9 @@ impl AddAssign for Tally {
     fn add_assign(&mut self, other: Self) {
         self.calls += other.calls;
         self.acknowledges += other.acknowledges;
+        for (point, count) in self.points.iter_mut().zip(other.points) {
+            *point += count;
+        }
         self.retirements += other.retirements;
         self.wakes += other.wakes;
         for (number, count) in self.refusals.iter_mut().zip(other.refusals) {
@@ -76,6 +89,7 @@ impl fmt::Display for Tally {
         let Self {
             calls,
             acknowledges,
+            points,
             retirements,
             wakes,
             refusals,
@@ -89,8 +103,12 @@ impl fmt::Display for Tally {
         } = self;
         write!(
             f,
-            "{calls} calls ({acknowledges} acknowledges, {retirements} retirements, {wakes} wake sets; refusals"
+            "{calls} calls ({acknowledges} acknowledges, {retirements} retirements, {wakes} wake sets; binary points"
         )?;
+        for (point, count) in points.iter().enumerate() {
+            write!(f, " {point}: {count}")?;
+        }
+        write!(f, "; refusals")?;
         for (number, count) in refusals.iter().enumerate().skip(1) {
             write!(f, " {number}: {count}")?;
         }

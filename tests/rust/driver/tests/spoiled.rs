@@ -1,5 +1,11 @@
 //! That the driver fails where the linked library differs.
-use comparison::{Library, question::Question, request::Request, run};
+use comparison::{
+    Library,
+    question::Question,
+    request::Request,
+    run,
+    wrong::{CONTROLLERS, Controller, Spoil},
+};
 use driver::Vgic;
 
 /// The library, with one bit of one word changed in every read of RPR.
@@ -60,6 +66,49 @@ impl Library for Silent {
             Question::IrqLevel { vcpu: 1 } => answer & !1,
             _ => answer,
         }
+    }
+}
+
+/// The library, with request Two's rule taken wrong.
+struct Wrong(Spoil);
+
+impl Library for Wrong {
+    fn state_words(&self, count: u64, limit: u64) -> u64 {
+        Vgic.state_words(count, limit)
+    }
+
+    fn image_bytes(&self, count: u64, limit: u64) -> u64 {
+        Vgic.image_bytes(count, limit)
+    }
+
+    fn image_shape(&self, image: &[u8]) -> u64 {
+        Vgic.image_shape(image)
+    }
+
+    fn call(&self, words: &mut [u32], buffer: &mut [u8], request: &Request) -> u64 {
+        let before = words.to_vec();
+        let mut answer = Vgic.call(words, buffer, request);
+        (self.0)(request, &before, &mut answer, words);
+        answer
+    }
+
+    fn ask(&self, words: &[u32], question: &Question) -> u64 {
+        Vgic.ask(words, question)
+    }
+}
+
+#[test]
+fn a_wrong_binary_point_is_found() {
+    for Controller {
+        what,
+        at_most,
+        spoil,
+    } in CONTROLLERS
+    {
+        let library = Wrong(spoil);
+        let case = run(&library, 1, 50_000).expect_err(what).shrunk(&library);
+        let calls = case.requests.len();
+        assert!(calls <= at_most, "{what}: {calls}\n{}", case.text());
     }
 }
 

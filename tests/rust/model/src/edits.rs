@@ -102,6 +102,13 @@ pub fn others(image: &[u8]) -> Vec<Edit> {
     all
 }
 
+/// These numbers in the place of some.
+pub fn instead(image: &[u8], gone: Range<usize>, put: &[u64]) -> Edit {
+    let places = &numbers(image)[gone];
+    let put: Vec<u8> = put.iter().copied().flat_map(groups).collect();
+    edit(places[0].start..places[places.len() - 1].end, &put)
+}
+
 /// Something after the end, and the last number gone.
 pub fn ends(image: &[u8]) -> Vec<Edit> {
     let end = image.len();
@@ -169,6 +176,8 @@ mod tests {
             made(longer(&image))[3],
             [0x02, 0xa2, 0x81, 0x80, 0x00, 0x00]
         );
+        let instead = vec![instead(&image, 0..2, &[1, 2, 129])];
+        assert_eq!(made(instead), [[0x01, 0x02, 0x81, 0x01, 0x00]]);
         assert_eq!(made(ends(&image))[0], [0x02, 0xa2, 0x01, 0x00, 0x00]);
         assert_eq!(made(ends(&image))[7], [0x02, 0xa2, 0x01]);
         assert!(made(others(&image)).contains(&vec![0x02, 0xa3, 0x01, 0x00]));

@@ -1,12 +1,14 @@
 //! The controller: its state, who is offered what, whom a call wakes, device inputs.
 mod cpu_interface;
 mod distributor;
+#[cfg(test)]
+mod tests;
 
 use crate::record::Record;
 
 pub const SPURIOUS: u64 = 1023; // also "nothing retired"
 const IDLE: u8 = 255; // running priority of an empty stack
-const STACK_MAX: usize = 255;
+pub const STACK_MAX: usize = 128; // request Two: "the depths in 6 and 7 become 128"
 const IIDR: u64 = 0x0002_043B;
 
 pub struct Answer {
@@ -57,7 +59,7 @@ pub struct Gic {
     pub ctlr: Vec<u64>,       // CPU interfaces
     pub pmr: Vec<u64>,
     pub bpr: Vec<u64>,
-    pub stack: Vec<Vec<(u64, u8)>>, // number and priority, newest last
+    pub stack: Vec<Vec<(u64, u8)>>, // number and group priority, newest last
 }
 
 impl Gic {
@@ -97,6 +99,7 @@ impl Gic {
         (v * 16 + id) as usize
     }
 
+    /// "PMR and the choice of the best still use all 8 bits."
     fn better(&self, v: u64, r: &Record, best: Option<Best>) -> bool {
         if u64::from(r.priority()) >= self.pmr[v as usize] {
             return false;
@@ -141,6 +144,13 @@ impl Gic {
         best
     }
 
+    /// "With binary point b the group priority is the priority with its low b+1 bits cleared": 7 leaves none.
+    fn group_priority(&self, v: u64, priority: u8) -> u8 {
+        let cleared = (2 << self.bpr[v as usize]) - 1;
+        (u64::from(priority) & !cleared) as u8
+    }
+
+    /// As stored: a later binary point does not regroup it.
     fn running(&self, v: u64) -> u8 {
         match self.stack[v as usize].last() {
             None => IDLE,
@@ -152,14 +162,14 @@ impl Gic {
         self.ctlr[v as usize] & 1 == 1
     }
 
-    /// What IAR gives vCPU v when its best candidate is `best`.
+    /// What IAR gives vCPU v when its best candidate is `best`: "IAR compares it", the group priority, "with the running priority".
     fn outlook(&self, v: u64, best: Option<Best>) -> Outlook {
         if !self.on || !self.interface_on(v) {
             return Outlook::Spurious;
         }
         match best {
             None => Outlook::Spurious,
-            Some(b) if b.priority >= self.running(v) => Outlook::Spurious,
+            Some(b) if self.group_priority(v, b.priority) >= self.running(v) => Outlook::Spurious,
             Some(_) if self.stack[v as usize].len() >= STACK_MAX => Outlook::Refused,
             Some(_) => Outlook::Number,
         }

@@ -1,8 +1,8 @@
 //! The image of a controller: the numbers of IMAGE.md in their order, each in seven-bit groups; and request One's calls. Written from that
-//! document and from document 02 alone.
+//! document and from document 02 alone; by request Two "9 refuses images of One with odd entries", which are not lawful.
 use crate::{
     IntId, Priority, TriggerMode,
-    gic::{Answer, Gic, gives, refused},
+    gic::{Answer, Gic, STACK_MAX, gives, refused},
     record::Record,
     words,
 };
@@ -187,7 +187,7 @@ impl Reader<'_> {
 
     /// From the oldest on.
     fn stack(&mut self, limit: u64) -> Option<Vec<(u64, u8)>> {
-        let depth = self.number(0..=255)?;
+        let depth = self.number(0..=STACK_MAX as u64)?;
         let mut stack = vec![];
         for _ in 0..depth {
             let id = self.number(0..=limit - 1)?;

@@ -1,4 +1,4 @@
-//! Request One's lawful state: demand 3's properties, and those that the request adds, each beside its sentence.
+//! Request One's lawful state: demand 3's properties, which request Two adds to, and those that One adds, each beside its sentence.
 use crate::{gic::Gic, record::Record};
 
 impl Gic {
@@ -11,11 +11,12 @@ impl Gic {
         (0..self.count).all(lawful_vcpu) && (32..self.limit).all(|id| self.lawful_spi(id))
     }
 
-    /// "The priorities under service fall strictly from the oldest to the newest and lie below 255"; "stack numbers lie below the limit".
+    /// "The priorities under service fall strictly from the oldest to the newest and lie below 255"; "stored entries are now even"; "stack
+    /// numbers lie below the limit".
     fn stack_in_order(&self, v: u64) -> bool {
         let mut above = 255;
         for &(id, priority) in &self.stack[v as usize] {
-            if priority >= above || id >= self.limit {
+            if priority >= above || priority % 2 == 1 || id >= self.limit {
                 return false;
             }
             above = priority;

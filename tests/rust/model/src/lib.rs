@@ -4,7 +4,7 @@
 //! The record's transitions are interrupt.rs's own, as document 01 asks.
 //!
 //! Request One is written here a second time too: `lawful` and `image`, over the lent words of docs/STATE.md (`words`); `edits` has
-//! changes that an image does not bear.
+//! changes that an image does not bear. So is request Two, the binary point: `gic` groups by it, and `lawful` has its even entries.
 pub mod edits;
 pub mod gic;
 pub mod image;

@@ -1,10 +1,14 @@
 //! The lent words of docs/STATE.md: which controller they mean, and how a controller is written.
-use crate::{IntId, Priority, TriggerMode, gic::Gic, record::Record};
+use crate::{
+    IntId, Priority, TriggerMode,
+    gic::{Gic, STACK_MAX},
+    record::Record,
+};
 use types::Parts;
 
 const HEADER: usize = 3;
 const VCPU: usize = 52; // 4 values, 16 source sets, 32 records
-const STACK: usize = 255;
+const STACK: usize = STACK_MAX; // an entry is a word
 
 pub fn in_range(count: u64, limit: u64) -> bool {
     (1..=8).contains(&count) && (32..=1020).contains(&limit)

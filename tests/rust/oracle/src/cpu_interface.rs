@@ -4,15 +4,16 @@ use crate::{IntId, Priority};
 const ENABLE: u32 = 1 << 0;
 const EOI_MODE: u32 = 1 << 9;
 
-/// Refusal 7: the service stack holds no more.
-const DEPTH: usize = 255;
+/// Refusal 7: the service stack holds no more (document 02, Two).
+const DEPTH: usize = 128;
 
 #[derive(Clone, PartialEq)]
 pub struct CpuInterfaceState {
     control: u32,
     priority_mask: Priority,
     binary_point: u8,
-    /// What is served, the newest last, by number: a lent state may name one that does not decode.
+    /// What is served, the newest last, by number: a lent state may name one that does not decode. Its priority is the group priority as
+    /// it was when the interrupt was taken.
     active: Vec<(u32, Priority)>,
 }
 

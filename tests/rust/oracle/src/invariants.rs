@@ -26,12 +26,14 @@ pub(crate) fn broken(gic: &GicV3Controller) -> Option<String> {
         .or_else(|| broken_record(&state.distributor.spis, exists, shared))
 }
 
-/// The priorities under service fall strictly and lie below 255, and the numbers lie below the limit.
+/// The priorities under service fall strictly, lie below 255 and are even, so that there are at most 128; the numbers lie below the limit.
 fn broken_stack(own: &RedistributorState, limit: u32) -> Option<String> {
     let served = own.cpu_interface().active();
     let well = served.windows(2).all(|pair| pair[0].1 > pair[1].1)
         && served.iter().all(|entry| entry.1 < Priority::IDLE)
-        && served.iter().all(|entry| entry.0 < limit);
+        && served.iter().all(|entry| entry.1.raw() % 2 == 0)
+        && served.iter().all(|entry| entry.0 < limit)
+        && served.len() <= 128;
     (!well).then(|| format!("under service: {served:?}"))
 }
 

@@ -19,7 +19,7 @@ pub const VCPU: usize = 52;
 pub const HEADER: usize = 3;
 
 /// The entries that a stack has room for.
-pub const STACK: usize = 255;
+pub const STACK: usize = 128;
 
 /// How many words a state takes.
 pub const fn size(count: usize, limit: usize) -> usize {
@@ -116,7 +116,7 @@ fn read_into(state: &mut State, words: &[u32]) -> Option<()> {
     Some(())
 }
 
-/// A depth over 255 is no state's.
+/// A depth over 128 is no state's.
 fn read_vcpu(own: &mut RedistributorState, values: &[u32], stack: &[u32]) -> Option<()> {
     let served = stack.get(..values[3] as usize)?.iter();
     let entry = |word: &u32| (word & 0x3ff, Priority((word >> 10) as u8));

@@ -4,7 +4,7 @@ use crate::record::Record;
 /// The running priority of a vCPU that serves nothing.
 const IDLE: u8 = 255;
 /// How many interrupts a vCPU may have under service.
-const STACK: usize = 255;
+const STACK: usize = 128;
 /// What IAR and HPPIR give where there is no interrupt.
 pub const SPURIOUS: u32 = 1023;
 pub const IIDR: u32 = 0x0002_043b;
@@ -54,7 +54,7 @@ pub struct Vcpu {
     pub eoi_mode: bool,
     pub mask: u8,
     pub binary_point: u8,
-    /// What it has under service, the newest last.
+    /// What it has under service, the newest last, each with its group priority as it was when it was taken.
     pub stack: Vec<Entry>,
     /// For each SGI the vCPUs that have sent it.
     pub sources: [u8; 16],
@@ -87,6 +87,12 @@ impl Vcpu {
             sources: [0; 16],
             records: (0..32).map(Record::new).collect(),
         }
+    }
+
+    /// A priority with its low bits cleared, one more than the binary point says.
+    fn group(&self, priority: u8) -> u8 {
+        let cleared = (2_u16 << self.binary_point) - 1;
+        priority & !cleared as u8
     }
 
     pub fn running(&self) -> u8 {
@@ -163,21 +169,23 @@ impl Gic {
         self.best(vcpu)
     }
 
+    /// The candidates are held against the mask and each other by their priorities, the best against what is served by its group's.
     fn offer(&self, vcpu: usize) -> Offer {
+        let Some(Entry { id, priority }) = self.highest_pending(vcpu) else {
+            return Offer::Nothing;
+        };
         let own = &self.vcpus[vcpu];
-        match self.highest_pending(vcpu) {
-            Some(best) if best.priority < own.running() => {
-                if own.stack.len() < STACK {
-                    Offer::Number(best)
-                } else {
-                    Offer::FullStack
-                }
-            }
-            _ => Offer::Nothing,
+        let priority = own.group(priority);
+        if priority >= own.running() {
+            Offer::Nothing
+        } else if own.stack.len() < STACK {
+            Offer::Number(Entry { id, priority })
+        } else {
+            Offer::FullStack
         }
     }
 
-    /// What a read of IAR takes, if it takes anything.
+    /// What a read of IAR takes, if it takes anything, with its group priority.
     pub(crate) fn take(&self, vcpu: usize) -> Result<Option<Entry>, Refusal> {
         match self.offer(vcpu) {
             Offer::Nothing => Ok(None),

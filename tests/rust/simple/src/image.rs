@@ -6,7 +6,7 @@ use std::slice;
 /// The words in front, those of a vCPU, and those of its stack.
 const HEADER: usize = 3;
 const VCPU: usize = 52;
-const STACK: usize = 255;
+const STACK: usize = 128;
 
 const PENDING: u32 = 0x02;
 const ACTIVE: u32 = 0x04;
@@ -192,12 +192,12 @@ fn mask(word: u32) -> u32 {
     }
 }
 
-/// Priorities fall, from below 255 on, and numbers are below the limit.
+/// Priorities are even and fall, from below 255 on, and numbers are below the limit.
 fn is_lawful_stack(stack: &[u32], limit: u32) -> bool {
     let mut above = 255;
     stack.iter().all(|entry| {
         let (number, priority) = (entry & 0x3ff, entry >> 10 & 255);
-        let lawful = priority < above && number < limit;
+        let lawful = priority < above && priority % 2 == 0 && number < limit;
         above = priority;
         lawful
     })
@@ -326,7 +326,7 @@ fn walk_stack(
     store(HEADER + VCPU * vcpu + 3, depth);
     for index in 0..depth as usize {
         let (number, priority) = (from.number(shape.limit as u32 - 1)?, from.number(255)?);
-        if priority >= above {
+        if priority >= above || priority % 2 != 0 {
             return None;
         }
         above = priority;

@@ -1,6 +1,7 @@
 -- `load::walking::take_service` meets its contract. Assumes nothing.
 use mathlib.Core.Path.{refl, sym, _∙_}
 use borrow.Author.Needs.{needs}
+use Rattle.state.specs.Layout.{stackCapacity}
 use Rattle.load.specs.Walking.{entriesStored, serviceEnd, serviceStored}
 use Rattle.load.proofs.Numbers.{within}
 use Rattle.load.proofs.Walks.{cond-same, stored-on, still-room}
@@ -26,14 +27,14 @@ begin-service-requires : tie.Need-begin-service-requires
 begin-service-requires c κs =
     let read = c .before .before in
     let asked = c .before .before .before .before .before .before .before .pre in
-    (asked .0, (asked .1, within 255 _ _ _ _ _ (read .before .before .number-up-to .ensures) (read .depth .given .1)))
+    (asked .0, (asked .1, within stackCapacity _ _ _ _ _ (read .before .before .number-up-to .ensures) (read .depth .given .1)))
 
 take-entries-requires : tie.Need-take-entries-requires
 take-entries-requires c κs =
     let read = c .before .before .before .before .before .before in
     let start = c .before .before .before .before .before .before .before .before .before .before .before in
     let a = start .args in
-    (still-room (a .shape) (a .stores) (a .words .now) _ (search needs) (start .pre .0), (start .pre .1, within 255 _ _ _ _ _ (read .before .before .number-up-to .ensures) (read .depth .given .1)))
+    (still-room (a .shape) (a .stores) (a .words .now) _ (search needs) (start .pre .0), (start .pre .1, within stackCapacity _ _ _ _ _ (read .before .before .number-up-to .ensures) (read .depth .given .1)))
 
 same-length : tie.Need-same-length
 same-length c = search needs

@@ -8,7 +8,7 @@
 //!   hexadecimal).
 use model::{
     edits::{self, Edit},
-    gic::Gic,
+    gic::{Gic, STACK_MAX},
     image,
     lines::{parse, run},
     words,
@@ -28,6 +28,7 @@ fn main() {
     list.fresh();
     list.busier();
     list.served();
+    list.grouped();
     list.full();
     list.largest();
     list.unlawful();
@@ -180,17 +181,80 @@ impl List {
         self.others(12..21);
     }
 
-    /// A full stack, whose priorities fall by one each.
+    /// Priority 70 is served as 68 and 127 as 0. Then 69, which was 68 too, becomes 64, and the line of vCPU 0 is up; 1 stays 0. Other
+    /// binary points in the image move that line, and other entries do.
+    fn grouped(&mut self) {
+        self.lines(&[
+            "n 2 36",
+            "D 0 0 4 1",
+            "C 0 0 4 1",
+            "C 0 4 4 255",
+            "C 0 8 4 1", // binary points
+            "C 1 0 4 1",
+            "C 1 4 4 255",
+            "C 1 28 4 7",
+            "D 0 1056 4 25118022", // priorities 70, 69, 127, 1
+            "D 0 2080 4 33685761", // 32 and 33 to vCPU 0, 34 and 35 to vCPU 1
+            "D 0 260 4 15",
+            "l 0 32 1",
+            "c 0 12 4",
+            "l 0 33 1",
+            "l 0 34 1",
+            "c 1 12 4",
+            "l 0 35 1",
+            "C 0 8 4 2",
+        ]);
+        self.save_exactly();
+        self.rooms();
+        self.others(3..15);
+        self.lines(&["c 0 12 4"]);
+        self.save_exactly();
+        self.others(9..14);
+    }
+
+    /// A full stack, with every even priority.
     fn full(&mut self) {
         self.lines(&["n 1 32"]);
-        let (depth, stack) = (6, self.words.len() - 255);
-        self.word(depth, 255);
-        for (index, priority) in (0..255).rev().enumerate() {
+        let (depth, stack) = (6, self.words.len() - STACK_MAX);
+        self.word(depth, 128);
+        for (index, priority) in (0..255).rev().step_by(2).enumerate() {
             self.word(stack + index, 31 + 1024 * priority);
         }
         self.save_exactly();
         self.rooms();
-        self.others([6, 7, 8, 7 + 2 * 254, 8 + 2 * 254]);
+        self.others([6, 7, 8, 8 + 2 * 63, 7 + 2 * 127, 8 + 2 * 127]);
+        self.odd(stack);
+        self.deeper(depth);
+    }
+
+    /// Each entry of that stack with its priority one higher: in the image, and in the words.
+    fn odd(&mut self, stack: usize) {
+        for index in 0..128 {
+            let place = 8 + 2 * index;
+            let odd = 255 - 2 * index as u64;
+            self.edits([edits::instead(&self.image, place..place + 1, &[odd])]);
+        }
+        for place in stack..stack + 128 {
+            let word = self.words[place];
+            self.word(place, word + 1024);
+            self.save(16384);
+            self.word(place, word);
+        }
+        self.save(16384);
+    }
+
+    /// One entry more than that stack holds, second, and the full stack of request One, whose priorities fall by one each. In words the
+    /// depth alone counts.
+    fn deeper(&mut self, depth: usize) {
+        let one_more = edits::instead(&self.image, 6..9, &[129, 31, 254, 31, 253]);
+        let of_one = (0..255).rev().flat_map(|priority| [31, priority]);
+        let of_one: Vec<u64> = [255].into_iter().chain(of_one).collect();
+        let of_one = edits::instead(&self.image, 6..9 + 2 * 127, &of_one);
+        self.edits([one_more, of_one]);
+        for entries in [127, 129, 255, 256, u32::MAX, 128] {
+            self.word(depth, entries);
+            self.save(16384);
+        }
     }
 
     fn largest(&mut self) {
@@ -205,12 +269,12 @@ impl List {
     fn unlawful(&mut self) {
         self.lines(&["n 2 33", "D 0 0 4 1", "C 1 0 4 1", "C 1 4 4 255"]);
         self.lines(&["D 0 260 4 1", "D 0 2080 1 2", "l 0 32 1", "c 1 12 4"]);
-        let stacks = self.words.len() - 2 * 255;
+        let stacks = self.words.len() - 2 * STACK_MAX;
         let sgi = 3 + 20;
         let places = [0, 1, 2, 3, 4, 5, 6, 7, sgi, sgi + 16, 58, stacks - 1];
         for place in places
             .into_iter()
-            .chain([stacks, stacks + 255, stacks + 256])
+            .chain([stacks, stacks + STACK_MAX, stacks + STACK_MAX + 1])
         {
             self.each_bit(place);
         }

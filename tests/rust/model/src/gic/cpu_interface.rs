@@ -29,7 +29,7 @@ impl Gic {
             0x04 => gives(self.pmr[v as usize]),
             0x08 | 0x1C => gives(self.bpr[v as usize]),
             0x0C | 0x20 => self.acknowledge(v),
-            0x14 => gives(self.running(v) as u64),
+            0x14 => gives(self.running(v) as u64), // "RPR shows it"
             0x18 | 0x28 => gives(self.highest_pending(v)),
             0xFC => gives(IIDR),
             _ => gives(0),
@@ -63,7 +63,8 @@ impl Gic {
         r.owner = Some(v);
         r.file.synchronize_inflight(InterruptState::Active);
         let priority = r.priority();
-        self.stack[v as usize].push((id, priority));
+        let entry = (id, self.group_priority(v, priority)); // "the stack holds it"
+        self.stack[v as usize].push(entry);
         if id < 16 {
             gives(id + 1024 * self.take_source(v, id))
         } else {

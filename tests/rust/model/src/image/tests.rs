@@ -144,6 +144,8 @@ fn no_other_bytes_are_an_image() {
         (12, 1, &[0x00]),        // a depth of 0, and an entry
         (13, 1, &[0x22]),        // an entry's number, which is the limit
         (14, 1, &[0xff, 0x01]),  // its priority
+        (14, 1, &[0xfd, 0x01]),  // an odd one
+        (14, 1, &[0x01]),        // another
         (16, 1, &[0x43]),        // an SGI that is pending, and has no source
         (16, 1, &[0x01]),        // a level SGI
         (16, 1, &[0x61]),        // an SGI's line
@@ -165,6 +167,7 @@ fn others_beside_them_are() {
         (3, 2, &[0x80, 0x04][..]), // bit 9 alone
         (13, 1, &[0x21]),
         (14, 1, &[0xfe, 0x01]),
+        (14, 1, &[0x02]),
         (16, 1, &[0x4d]),
         (180, 1, &[0x80, 0x02]), // unset
         (180, 1, &[0x00]),       // a mask of 0
@@ -180,7 +183,7 @@ fn others_beside_them_are() {
 fn stray_bits_are_not_saved_and_unlawful_words_are_refused() {
     let state = busier();
     let image = saved(&state);
-    let stacks = state.len() - 2 * 255;
+    let stacks = state.len() - 2 * 128;
     let changed = |place: usize, bits: u32| {
         let mut words = state.clone();
         words[place] ^= bits;
@@ -201,6 +204,7 @@ fn stray_bits_are_not_saved_and_unlawful_words_are_refused() {
     for (place, bits, number) in [
         (0, 1, 6),
         (6, 0x100, 6),
+        (6, 0x80, 6), // a depth of 129
         (6, 2, 9),
         (7, 1, 9),
         (23, 0x40, 9),
@@ -209,10 +213,42 @@ fn stray_bits_are_not_saved_and_unlawful_words_are_refused() {
         (107, 3 << 16, 0),
         (107, 4 << 16, 9),
         (107, 1 << 24, 9),
+        (stacks, 1 << 10, 9), // an odd entry
+        (stacks, 1 << 11, 0),
+        (stacks + 128, 1 << 10, 0), // one past the depth
     ] {
         let answer = save(&changed(place, bits), &mut [0; 999]);
         assert_eq!(answer.refusal, number, "{place} {bits:x}");
     }
+}
+
+/// Of SGI 0 at these priorities, in a controller of one vCPU.
+fn stacked(priorities: &[u64]) -> Vec<u8> {
+    let mut stack = vec![];
+    write_number(&mut stack, priorities.len() as u64);
+    for priority in priorities {
+        stack.push(0);
+        write_number(&mut stack, *priority);
+    }
+    with(&saved(&after(&["n 1 33"])), 6, 1, &stack)
+}
+
+#[test]
+fn a_stack_holds_even_priorities_and_128_at_most() {
+    let even: Vec<u64> = (0..128).map(|index| 254 - 2 * index).collect();
+    assert_eq!(refusal(&stacked(&even)), 0);
+    let mut words = vec![0; words::size(1, 33)];
+    load(&mut words, &stacked(&even));
+    assert_eq!(saved(&words), stacked(&even));
+    for index in 0..128 {
+        let mut odd = even.clone();
+        odd[index] += 1;
+        assert_eq!(refusal(&stacked(&odd)), 9, "{index}");
+    }
+    let deeper: Vec<u64> = [&even[..127], &[1, 0]].concat();
+    assert_eq!(refusal(&stacked(&deeper)), 9);
+    let of_one: Vec<u64> = (0..255).rev().collect();
+    assert_eq!(refusal(&stacked(&of_one)), 9);
 }
 
 #[test]

@@ -37,21 +37,21 @@ fn answer(machine: &mut Machine, line: &str) -> String {
 
 #[test]
 fn a_full_stack_refuses_an_acknowledge_by_7() {
-    let mut machine = with_depth(255);
+    let mut machine = with_depth(128);
     assert_eq!(answer(&mut machine, "c 0 12 4"), "7 0 0 1023");
     assert_eq!(answer(&mut machine, "c 0 24 4"), "0 1 0 1023");
-    let mut machine = with_depth(254);
+    let mut machine = with_depth(127);
     assert_eq!(answer(&mut machine, "c 0 12 4"), "0 1 0 1023");
 }
 
 #[test]
 fn an_acknowledge_that_7_refuses_gave_no_1023() {
     // The pop makes room, so IAR gives 1 after it; before it was refused, which is not 1023.
-    let mut machine = with_depth(255);
+    let mut machine = with_depth(128);
     assert_eq!(answer(&mut machine, "C 0 16 4 5"), "0 0 0 1023");
     assert_eq!(answer(&mut machine, "c 0 12 4"), "0 1 0 1023");
     // And while it would be refused it gives no number: nobody wakes.
-    let mut machine = with_depth(255);
+    let mut machine = with_depth(128);
     assert_eq!(answer(&mut machine, "C 0 4 4 0"), "0 0 0 1023");
     assert_eq!(answer(&mut machine, "C 0 4 4 255"), "0 0 0 1023");
 }
@@ -59,7 +59,7 @@ fn an_acknowledge_that_7_refuses_gave_no_1023() {
 #[test]
 fn a_line_is_up_where_iar_would_give_a_number() {
     let shown = |answer: Answer| answer.to_string();
-    let mut machine = with_depth(254);
+    let mut machine = with_depth(127);
     assert_eq!(shown(machine.irq_level(0)), "0 1 0 1023");
     for vcpu in [1, 8, 1 << 32, u64::MAX] {
         assert_eq!(shown(machine.irq_level(vcpu)), "3 0 0 1023");
@@ -67,7 +67,7 @@ fn a_line_is_up_where_iar_would_give_a_number() {
     assert_eq!(answer(&mut machine, "D 0 0 4 0"), "0 0 0 1023");
     assert_eq!(shown(machine.irq_level(0)), "0 0 0 1023");
     assert_eq!(shown(machine.irq_level(1)), "3 0 0 1023"); // where IAR looks nobody up
-    assert_eq!(shown(with_depth(255).irq_level(0)), "0 0 0 1023");
+    assert_eq!(shown(with_depth(128).irq_level(0)), "0 0 0 1023");
     assert_eq!(shown(Machine::default().irq_level(0)), "6 0 0 1023");
 }
 
@@ -139,6 +139,37 @@ fn ending_a_number_from_the_limit_up_pops_it_and_no_more() {
     assert_eq!(answer(&mut machine, "c 0 20 4"), "0 7 0 1023");
     assert_eq!(answer(&mut machine, "C 0 16 4 1019"), "0 0 0 1023");
     assert_eq!(answer(&mut machine, "c 0 20 4"), "0 255 0 1023");
+}
+
+/// SGI 1 pending at this priority, and one entry with this one on the stack; a read of IAR with this binary point, and RPR after it.
+fn taken_above(entry: u8, priority: u8, binary_point: u8) -> [String; 2] {
+    let mut machine = changed(|state| {
+        let cpu = own(state).cpu_interface_mut();
+        cpu.push_v2_active(IntId::new(5).unwrap(), Priority(entry));
+        cpu.set_v2_binary_point(binary_point);
+    });
+    for line in [format!("D 0 1025 1 {priority}"), "D 0 3873 1 1".into()] {
+        answer(&mut machine, &line);
+    }
+    ["c 0 12 4", "c 0 20 4"].map(|line| answer(&mut machine, line))
+}
+
+#[test]
+fn an_odd_entry_is_compared_and_shown_as_it_is_stored() {
+    let (given, none) = ("0 1 0 1023", "0 1023 0 1023");
+    for (entry, priority, binary_point, iar, rpr) in [
+        (7, 8, 0, none, "0 7 0 1023"),
+        (7, 7, 0, given, "0 6 0 1023"), // its group is 6
+        (7, 6, 0, given, "0 6 0 1023"),
+        (7, 9, 2, none, "0 7 0 1023"),
+        (7, 7, 2, given, "0 0 0 1023"),
+        (1, 254, 7, given, "0 0 0 1023"),
+        (0, 254, 7, none, "0 0 0 1023"),
+        (255, 254, 0, given, "0 254 0 1023"),
+    ] {
+        let shown = taken_above(entry, priority, binary_point);
+        assert_eq!(shown, [iar, rpr], "{entry} {priority} {binary_point}");
+    }
 }
 
 #[test]

@@ -8,7 +8,7 @@ use crate::{
 };
 
 /// From the most urgent to one that is never offered.
-const PRIORITIES: [u64; 8] = [0, 0x10, 0x20, 0x40, 0x7f, 0x80, 0xa0, 0xff];
+const PRIORITIES: [u64; 10] = [0, 1, 0x10, 0x20, 0x40, 0x7f, 0x80, 0xa0, 0xfe, 0xff];
 
 pub struct Scene {
     pub count: u64,
@@ -18,6 +18,8 @@ pub struct Scene {
     pub inputs: Vec<u64>,
     /// The vCPUs that most happens at.
     pub stage: Vec<u64>,
+    /// About half of the priorities are this one but for a bit, so that it is the binary point that tells them apart.
+    near: u64,
     /// For each vCPU what IAR gave and nothing has ended, the newest last.
     pub held: Vec<Vec<u64>>,
     /// What EOIR has ended without deactivating it: in EOI mode it waits for DIR.
@@ -54,6 +56,7 @@ impl Scene {
             sgis,
             inputs,
             stage,
+            near: random.below(256),
             held: vec![vec![]; count as usize],
             dropped: vec![vec![]; count as usize],
             steps_left: 150 + random.below(350),
@@ -97,7 +100,18 @@ impl Scene {
     }
 
     pub fn priority(&self, random: &mut Random) -> u64 {
-        random.pick(&PRIORITIES)
+        if random.percent(50) {
+            self.near ^ 1 << random.below(8)
+        } else {
+            random.pick(&PRIORITIES)
+        }
+    }
+
+    /// A write of the binary point, by both names; at times with bits above it, which are nothing.
+    pub fn binary_point(&self, vcpu: u64, point: u64, random: &mut Random) -> Call {
+        let register = random.pick(&[GICC_BPR, GICC_BPR, GICC_ABPR]);
+        let above = random.pick(&[0, 0, 0, 8, 0xf8, 0xffff_fff8]);
+        write(CpuInterface, vcpu, register, Dword, above | point)
     }
 
     /// A guest's first accesses: everything on, each interrupt with a priority, an enable, a trigger and targets.
@@ -110,6 +124,10 @@ impl Scene {
             calls.push(write(CpuInterface, vcpu, GICC_CTLR, Dword, control));
             let mask = random.pick(&[255, 255, 255, 0xf0, 0x80]);
             calls.push(write(CpuInterface, vcpu, GICC_PMR, Dword, mask));
+            if random.percent(75) {
+                let point = random.below(8);
+                calls.push(self.binary_point(vcpu, point, random));
+            }
             for &number in self.sgis.iter().chain(&self.inputs) {
                 if number < 32 || vcpu == 0 {
                     self.boot_interrupt(random, vcpu, number, &mut calls);

@@ -21,6 +21,9 @@ const STEPS: &[(u64, Step)] = &[
     (16, input),
     (5, look),
     (4, mask),
+    (4, regroup),
+    (4, neighbours),
+    (3, overtake),
     (5, priority),
     (4, target),
     (8, bits),
@@ -84,14 +87,9 @@ fn nest(scene: &Scene, random: &mut Random) -> Vec<Call> {
     let (vcpu, number) = (scene.one_with(&scene.held, random), scene.interrupt(random));
     let depth = scene.held[vcpu as usize].len() as u64;
     let priority = 0x80 >> depth.min(8);
-    let pend = if number < 16 {
-        write(Distributor, vcpu, GICD_SGIR, Dword, 2 << 24 | number)
-    } else {
-        Call::Pulse(Input { vcpu, number })
-    };
     vec![
         write(Distributor, vcpu, GICD_IPRIORITYR + number, Byte, priority),
-        pend,
+        pend(vcpu, number),
         read(CpuInterface, vcpu, GICC_IAR, Dword),
     ]
 }
@@ -188,17 +186,71 @@ fn look(scene: &Scene, random: &mut Random) -> Vec<Call> {
     vec![read(CpuInterface, scene.vcpu(random), register, Dword)]
 }
 
-/// PMR, while things are pending and served; at times the binary point, which is for show.
+/// PMR, while things are pending and served; at times at one of the scene's priorities, which is then just not offered.
 fn mask(scene: &Scene, random: &mut Random) -> Vec<Call> {
-    let register = random.pick(&[GICC_PMR, GICC_PMR, GICC_PMR, GICC_PMR, GICC_BPR, GICC_ABPR]);
-    let value = random.pick(&[255, 255, 255, 0xf0, 0x80, 0x7f, 0x21, 1, 0]);
-    vec![write(
-        CpuInterface,
-        scene.vcpu(random),
-        register,
-        Dword,
-        value,
-    )]
+    let near = scene.priority(random);
+    let value = random.pick(&[
+        255, 255, 255, 0xf0, 0x80, 0x7f, 0x21, 1, 0, near, near, near,
+    ]);
+    let vcpu = scene.vcpu(random);
+    vec![write(CpuInterface, vcpu, GICC_PMR, Dword, value)]
+}
+
+/// Another binary point, mostly at a vCPU that is serving, and a look at what it makes of that.
+fn regroup(scene: &Scene, random: &mut Random) -> Vec<Call> {
+    let vcpu = scene.one_with(&scene.held, random);
+    let point = random.below(8);
+    let look = random.pick(&[GICC_IAR, GICC_IAR, GICC_RPR, GICC_HPPIR, GICC_BPR]);
+    vec![
+        scene.binary_point(vcpu, point, random),
+        read(CpuInterface, vcpu, look, Dword),
+    ]
+}
+
+/// Makes an interrupt pending at this vCPU.
+fn pend(vcpu: u64, number: u64) -> Call {
+    if number < 16 {
+        write(Distributor, vcpu, GICD_SGIR, Dword, 2 << 24 | number)
+    } else {
+        Call::Pulse(Input { vcpu, number })
+    }
+}
+
+/// An interrupt of the scene comes to this vCPU with this priority.
+fn come(scene: &Scene, vcpu: u64, priority: u64, random: &mut Random) -> [Call; 2] {
+    let number = scene.interrupt(random);
+    [
+        write(Distributor, vcpu, GICD_IPRIORITYR + number, Byte, priority),
+        pend(vcpu, number),
+    ]
+}
+
+/// While one is served, another comes whose priority is the same but for a bit.
+fn neighbours(scene: &Scene, random: &mut Random) -> Vec<Call> {
+    let (vcpu, point) = (scene.vcpu(random), random.below(8));
+    let first = scene.priority(random);
+    let second = first ^ 1 << random.below(8);
+    let mut calls = vec![scene.binary_point(vcpu, point, random)];
+    for priority in [first, second] {
+        calls.extend(come(scene, vcpu, priority, random));
+        calls.push(read(CpuInterface, vcpu, GICC_IAR, Dword));
+        calls.push(read(CpuInterface, vcpu, GICC_RPR, Dword));
+    }
+    calls
+}
+
+/// Another waits behind the one that is served, with the same priority, until a greater binary point lets it through.
+fn overtake(scene: &Scene, random: &mut Random) -> Vec<Call> {
+    let (vcpu, greater) = (scene.vcpu(random), 1 + random.below(7));
+    let smaller = random.below(greater);
+    let priority = scene.priority(random) | 1 << greater;
+    let mut calls = vec![];
+    for point in [smaller, greater] {
+        calls.extend(come(scene, vcpu, priority, random));
+        calls.push(scene.binary_point(vcpu, point, random));
+        calls.push(read(CpuInterface, vcpu, GICC_IAR, Dword));
+    }
+    calls
 }
 
 /// An aligned access of 1, 2 or 4 bytes that takes in this byte.

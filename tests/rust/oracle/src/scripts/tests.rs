@@ -1,13 +1,13 @@
 //! That the histories do what they are for, and that demand 3 holds along them.
 use super::Scripts;
 use crate::{
-    AccessWidth, GicV3Controller,
+    AccessWidth, GicV3Controller, GicVcpuId,
     RegisterRegion::{self, CpuInterface, Distributor},
-    access, invariants, lines,
+    SpiId, access, invariants, lines,
     machine::{Answer, Call, SPURIOUS},
     redistributor::RedistributorState,
     register::*,
-    registers::Interrupt,
+    registers::{Bank, Interrupt},
     scripts::steps::{CPU_INTERFACE, DISTRIBUTOR},
 };
 use std::collections::BTreeMap;
@@ -126,7 +126,9 @@ fn everything_that_can_wake_wakes() {
     ] {
         tally.expect(&format!("Distributor {offset:#x}"), 20);
     }
-    for offset in [GICC_CTLR, GICC_PMR, GICC_EOIR, GICC_AEOIR, GICC_DIR] {
+    for offset in [
+        GICC_CTLR, GICC_PMR, GICC_BPR, GICC_ABPR, GICC_EOIR, GICC_AEOIR, GICC_DIR,
+    ] {
         tally.expect(&format!("CpuInterface {offset:#x}"), 20);
     }
     for what in ["line", "pulse", "1 at once", "2 at once", "3 at once"] {
@@ -158,6 +160,57 @@ fn interrupts_nest_and_collide() {
         ("served by a vCPU that is no target", 100),
     ] {
         tally.expect(what, least);
+    }
+}
+
+#[test]
+fn every_binary_point_decides() {
+    let mut tally = Tally::default();
+    watch(|_, answered, gic| {
+        if let (Some((Call::Read(at), answer)), Some(gic)) = (answered, gic)
+            && Call::Read(at).is_acknowledge()
+            && answer.refusal == 0
+            && at.vcpu < gic.vcpu_count() as u64
+        {
+            note_acknowledge(&mut tally, gic, at.vcpu as usize, &answer);
+        }
+    });
+    for point in 0..8 {
+        tally.expect(&format!("given at {point}"), 500);
+        tally.expect(&format!("an odd priority given at {point}"), 100);
+        tally.expect(&format!("held back by the group served at {point}"), 100);
+        if point > 0 {
+            tally.expect(&format!("given for its group alone at {point}"), 10);
+        }
+    }
+}
+
+/// What the binary point had to do with an acknowledge. What gave nothing has changed nothing, and what gave a number has left its priority.
+fn note_acknowledge(tally: &mut Tally, gic: &GicV3Controller, vcpu: usize, answer: &Answer) {
+    let state = gic.state();
+    let seen = state.redistributor(GicVcpuId::new(vcpu), "test").unwrap();
+    let cpu = seen.cpu_interface();
+    let (point, served) = (cpu.v2_binary_point(), cpu.active());
+    let priority = |number: u32| {
+        let private = seen.own.find(number);
+        private.or_else(|| seen.distributor.find(number)).unwrap()
+    };
+    let priority = |number: u32| priority(number).record.priority();
+    if answer.value != u64::from(SPURIOUS) {
+        let (number, _) = *served.last().unwrap();
+        tally.note(format!("given at {point}"));
+        if priority(number).raw() % 2 == 1 {
+            tally.note(format!("an odd priority given at {point}"));
+        }
+        if served.len() > 1 && priority(number) >= served[served.len() - 2].1 {
+            tally.note(format!("given for its group alone at {point}"));
+        }
+    } else if let (Some(&(newest, running)), true) = (served.last(), cpu.v2_enabled()) {
+        let spi = |spi: SpiId| Ok(priority(spi.raw()));
+        let best = seen.highest_pending(cpu.v2_priority_mask(), spi).unwrap();
+        if best.is_some_and(|(_, best)| best >= running && best < priority(newest)) {
+            tally.note(format!("held back by the group served at {point}"));
+        }
     }
 }
 

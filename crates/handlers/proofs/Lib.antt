@@ -1,0 +1,3 @@
+-- The kernel's story, proved.
+pub mod Keeping
+pub mod Shielded
