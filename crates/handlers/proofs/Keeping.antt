@@ -52,7 +52,7 @@ use Rattle.history.proofs.Always.{each-start, every-other-call}
 use Rattle.history.proofs.Chains.{place-chain}
 use Rattle.history.proofs.Each.{start-or-act, valid, each-call}
 use Rattle.waiting.proofs.Keeping.{acknowledge-cases}
-use Rattle.handlers.specs.Handlers.{Handler, setsPoint, isItsEnd, ends}
+use Rattle.handlers.specs.Handlers.{Handler, setsPoint, isItsEnd, endsStory}
 
 -- entry i of v's stack is e, and v's binary point b
 pub record Stands (shape : Shape) (v i : ℕ) (e : Entry) (b : ℕ) (s : List ℕ) : Type 0 where
@@ -228,14 +228,14 @@ module _ (h : Handler) (e : Entry) (b : ℕ) (is : e .intid .0 ≡ h .interrupt)
       by-rule Deactivates off there z = by-dir (decodedEoi value) there
 
     -- a call that comes to this ends the story, or all stands
-    abbrev Keeps′ : Deed → Outcome → Type 0
-    Keeps′ d o = ends h s d o ≡ false → Holds (o .state)
+    abbrev Spared : Deed → Outcome → Type 0
+    Spared d o = endsStory h s d o ≡ false → Holds (o .state)
 
-    other-stands : (c : Call) → isStart c ≡ false → Keeps′ (deed c) (called c s)
+    other-stands : (c : Call) → isStart c ≡ false → Spared (deed c) (called c s)
     other-stands =
-        each-call shape s (valid shape s controls) (λ c. Keeps′) (λ c d r may bar z. p) (λ c by x z. p) (λ c u register x no z. p)
+        each-call shape s (valid shape s controls) (λ c. Spared) (λ c d r may bar z. p) (λ c by x z. p) (λ c u register x no z. p)
         (λ c u register acknowledges looked full.
-        acknowledge-cases shape s controls u looked (Keeps′ (Acts (ReadsRegister u (interface.At register)))) (λ z. p) (λ d o z. move-stands shape v i e b exists inside s sound p (Given u d) tt o))
+        acknowledge-cases shape s controls u looked (Spared (Acts (ReadsRegister u (interface.At register)))) (λ z. p) (λ d o z. move-stands shape v i e b exists inside s sound p (Given u d) tt o))
         (λ c u register value looked z. by-rule u value (ruleOf register .writes) (off-depths u register) looked z)
         (λ c u place width value at z.
         chain-keeps Holds (λ m t made o here now. move-stands shape v i e b exists inside t (lawful-sound (here .lawful)) now m (class-leaves shape v u (place .class) (place .first .0) width value m made) o)
@@ -246,8 +246,8 @@ module _ (h : Handler) (e : Entry) (b : ℕ) (is : e .intid .0 ≡ h .interrupt)
         signal-stands u n there past (Level asserted) = move-stands shape v i e b exists inside s sound p (Changed u n (moves.SetLevel asserted)) tt (record { there = there; fits = past })
         signal-stands u n there past Edge = move-stands shape v i e b exists inside s sound p (Changed u n moves.Pulse) tt (record { there = there; fits = past })
 
-    pub call-stands : (c : Call) → ends h s (deed c) (called c s) ≡ false → Controls shape (called c s .state) × Holds (called c s .state)
+    pub call-stands : (c : Call) → endsStory h s (deed c) (called c s) ≡ false → Controls shape (called c s .state) × Holds (called c s .state)
     call-stands =
-        start-or-act (λ c. ends h s (deed c) (called c s) ≡ false → Controls shape (called c s .state) × Holds (called c s .state))
-        (each-start s (λ c d o. ends h s d o ≡ false → Controls shape (o .state) × Holds (o .state)) (λ c d r may z. (controls, p)) (λ c count limit after new z. absurd (true≢false z)))
+        start-or-act (λ c. endsStory h s (deed c) (called c s) ≡ false → Controls shape (called c s .state) × Holds (called c s .state))
+        (each-start s (λ c d o. endsStory h s d o ≡ false → Controls shape (o .state) × Holds (o .state)) (λ c d r may z. (controls, p)) (λ c count limit after new z. absurd (true≢false z)))
         (λ c other z. (every-other-call shape c other s controls, other-stands c other z))

@@ -35,7 +35,7 @@ use Rattle.history.proofs.Each.{valid}
 use Rattle.waiting.proofs.Keeping.{handedOut, acknowledge-cases, never-keeps}
 use Rattle.stories.proofs.Calls.{acknowledge-call}
 use Rattle.stories.proofs.Turns.{candidate-call}
-use Rattle.handlers.specs.Handlers.{Handler, entered, later, nextRead, runningRead, groupIn, ownGroup, ends, Runs, Urgent, Shielded}
+use Rattle.handlers.specs.Handlers.{Handler, entered, later, nextRead, runningRead, groupIn, ownGroup, endsStory, Runs, Urgent, Shielded}
 use Rattle.handlers.proofs.Keeping.{Stands, call-stands}
 
 -- RPR reads the running priority
@@ -96,7 +96,7 @@ module _ (h : Handler) (r : Runs h) where
   -- and there it still is
   stands-on : Controls shape s × Stands shape v below own point s
   stands-on =
-      never-keeps (λ t c o. ends h t (deed c) o) (λ t. Controls shape t × Stands shape v below own point t)
+      never-keeps (λ t c o. endsStory h t (deed c) o) (λ t. Controls shape t × Stands shape v below own point t)
       (λ c t p q. call-stands h own point refl (r .exists) (entered-so .room) t (p .0) (p .1) c q)
       (h .meanwhile) (entered h .state) (every-other-call shape (iarRead v) refl words (r .controls), entered-so .stands) (r .unended)
 

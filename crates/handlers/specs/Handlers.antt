@@ -70,13 +70,13 @@ writesThere h (Refused r) value s = false
 writesThere h (At register) value s = setsPoint (ruleOf register .writes) || isItsEnd h (ruleOf register .writes) value s
 
 -- what the story ends with: all starts anew, or the vCPU itself writes its BPR or the handler's EOIR
-abbrev pub ends : Handler → List ℕ → Deed → Outcome → Bool
-ends h s (Starts count limit) o = eqb (o .refusal) 0
-ends h s (Acts (Looks by)) o = false
-ends h s (Acts (ReadsRegister v a)) o = false
-ends h s (Acts (WritesRegister v a value)) o = eqb v (h .vcpu) && writesThere h a value s
-ends h s (Acts (WritesPlace v a width value)) o = false
-ends h s (Acts (Signals v n signal)) o = false
+abbrev pub endsStory : Handler → List ℕ → Deed → Outcome → Bool
+endsStory h s (Starts count limit) o = eqb (o .refusal) 0
+endsStory h s (Acts (Looks by)) o = false
+endsStory h s (Acts (ReadsRegister v a)) o = false
+endsStory h s (Acts (WritesRegister v a value)) o = eqb v (h .vcpu) && writesThere h a value s
+endsStory h s (Acts (WritesPlace v a width value)) o = false
+endsStory h s (Acts (Signals v n signal)) o = false
 
 -- the vCPU of a controller was given the interrupt, and of the calls since then none has ended the story
 pub record Runs (h : Handler) : Type 0 where
@@ -84,7 +84,7 @@ pub record Runs (h : Handler) : Type 0 where
   pub exists : h .vcpu < h .shape .count
   pub numbered : h .interrupt < 1020
   pub given : entered h .value ≡ h .interrupt + 1024 * h .source
-  pub unended : never (λ s c o. ends h s (deed c) o) (h .meanwhile) (entered h .state) ≡ true
+  pub unended : never (λ s c o. endsStory h s (deed c) o) (h .meanwhile) (entered h .state) ≡ true
 
 -- an interrupt that waits for the vCPU, before all others, with a group priority smaller than what runs there
 pub record Urgent (h : Handler) (n : ℕ) : Type 0 where

@@ -1,4 +1,4 @@
--- Who keeps the promises is of none of the four kinds: for each kind a history, computed, that it does not answer so. Assumes nothing.
+-- Who keeps the promises is of none of the five kinds: for each kind a history, computed, that it does not answer so. Assumes nothing.
 use mathlib.Core.Path.{_≡_, refl, sym, ap, _∙_}
 use mathlib.Core.Bool.{Bool, true, _&&_, true≢false}
 use mathlib.Core.List.{List, [], _∷_}
@@ -13,7 +13,7 @@ use Rattle.answer.specs.Answer.{Outcome, gave}
 use Rattle.history.specs.History.{Call, Setup, ReadDistributor, WriteDistributor, WriteCpuInterface, called, iarRead}
 use Rattle.corners.specs.Corners.{zeros}
 use Rattle.corners.proofs.Started.{started, setup-started, computing}
-use Rattle.shut_out.specs.ShutOut.{Behaviour, allInScope, admitted, KeepsPromises, behaved, History, wordsAfter, Frame, Distributor, CpuInterface, Access, readCall, writeCall, Refuser, ReadsNothing, IgnoresWrites, gaveNumber, OneShot}
+use Rattle.shut_out.specs.ShutOut.{Behaviour, allInScope, admitted, KeepsPromises, behaved, History, wordsAfter, Frame, Distributor, CpuInterface, Access, readCall, writeCall, Refuser, ReadsNothing, IgnoresWrites, gaveNumber, OneShot, PointForShow}
 
 -- the calls of a row and then one more are such as the types admit
 abbrev allAdmitted : List Call → Call → List ℕ → Bool
@@ -124,3 +124,37 @@ no-one-shot f m k =
     let e : f (iarRead 0) (wordsAfter f (history before refl)) ≡ first = from-setup f m before refl (iarRead 0) refl in
     let d : f (iarRead 0) (behaved f between (first .state)) ≡ second = promised f m between (iarRead 0) (first .state) refl in
     true≢false (sym (ap gaveNumber d ∙ second-given) ∙ (rw e at (k (history before refl) 0 between (ap gaveNumber e ∙ first-given) refl refl)))
+
+-- SGI 5 of priority 4 is served, and SGI 6 of priority 5 waits: by binary point 0 they are of one group, by 2 the group of SGI 6 is 0
+serving : List Call
+serving =
+    WriteDistributor 0 0x000 Dword 1
+    ∷ WriteCpuInterface 0 0x00 Dword 1
+    ∷ WriteCpuInterface 0 0x04 Dword 255
+    ∷ WriteDistributor 0 0x404 Dword 0x00050400
+    ∷ ring
+    ∷ iarRead 0
+    ∷ WriteDistributor 0 0xf00 Dword 0x02000006
+    ∷ []
+
+setPoint : Call
+setPoint = WriteCpuInterface 0 0x08 Dword 2
+
+given-by-2 : called (iarRead 0) (called setPoint (behaved called serving begun) .state) .value ≡ 6
+unfolding behaved ring serving setPoint zeros computing
+given-by-2 = refl
+
+waits-by-0 : called (iarRead 0) (behaved called serving begun) .value ≡ 1023
+unfolding behaved ring serving zeros computing
+waits-by-0 = refl
+
+pub no-point-for-show : (f : Behaviour) → KeepsPromises f → PointForShow f → ⊥
+unfolding behaved ring serving setPoint zeros computing
+no-point-for-show f m k =
+    let set : f setPoint (wordsAfter f (history serving refl)) ≡ called setPoint (behaved called serving begun) = from-setup f m serving refl setPoint refl in
+    let waits : f (iarRead 0) (wordsAfter f (history serving refl)) ≡ called (iarRead 0) (behaved called serving begun) = from-setup f m serving refl (iarRead 0) refl in
+    let given : f (iarRead 0) (called setPoint (behaved called serving begun) .state) ≡ called (iarRead 0) (called setPoint (behaved called serving begun) .state) = m (iarRead 0) (called setPoint (behaved called serving begun) .state) refl in
+    differ (sym given-by-2 ∙ sym (ap (λ (o : Outcome). o .value) given) ∙ (rw set at (k (history serving refl) 0 2)) ∙ ap (λ (o : Outcome). o .value) waits ∙ waits-by-0)
+  where
+    differ : _≡_ {A = ℕ} 6 1023 → ⊥
+    differ e = omega (arith, e)

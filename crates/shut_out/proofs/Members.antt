@@ -11,12 +11,12 @@ use Rattle.register.specs.declared.frame.Refusal.the-variants.{BrokenState}
 use Rattle.state.proofs.Tests.{left-true, right-true}
 use Rattle.answer.specs.Answer.{Outcome, refused, gave}
 use Rattle.history.specs.History.{Call, Looks, ReadsRegister, WritesRegister, WritesPlace, Signals, Deed, Starts, Acts, deed, startsAnew, isStart, called, noStart, iarRead}
-use Rattle.shut_out.specs.ShutOut.{Behaviour, KeepsPromises, behaved, wordsAfter, Frame, Access, readCall, writeCall, Refuser, ReadsNothing, IgnoresWrites, gaveNumber, OneShot}
+use Rattle.shut_out.specs.ShutOut.{Behaviour, KeepsPromises, behaved, wordsAfter, Frame, Access, readCall, writeCall, Refuser, ReadsNothing, IgnoresWrites, gaveNumber, OneShot, PointForShow}
 
 pub one-meets : KeepsPromises called
 one-meets c s p = refl
 
--- one that refuses everything: it is of the first three kinds
+-- one that refuses everything: it is of the first three kinds and the last
 abbrev refuses : Behaviour
 refuses c s = refused BrokenState s
 
@@ -28,6 +28,9 @@ a-constant-reader frame h a = inl refl
 
 pub a-deaf-controller : (frame : Frame) → IgnoresWrites frame refuses
 a-deaf-controller frame h a b value = refl
+
+pub a-point-for-show : PointForShow refuses
+a-point-for-show h v value = refl
 
 -- one whose writes leave the words as they were ignores them, whatever it answers
 pub unchanged-ignores : (frame : Frame) (f : Behaviour) → ((a : Access) (value : ℕ) (s : List ℕ) → f (writeCall frame a value) s .state ≡ s) → IgnoresWrites frame f

@@ -1,6 +1,6 @@
 -- What the promises of the public calls shut out: document 01, "What the promises have to hold": "Demand 2, whose calls demand 3 speaks of,
 -- shuts out a controller that refuses everything, one that reads 1023 or 0 everywhere, one that ignores writes, and one that acknowledges the
--- first interrupt properly and answers 1023 ever after". Each kind is as wide as these words allow, so that the theorems shut out the most.
+-- first interrupt properly and answers 1023 ever after"; and, by document 02, Two, one that "keeps BPR for show". Each kind is as wide as these words allow, so that the theorems shut out the most.
 use mathlib.Core.Path.{_≡_}
 use mathlib.Core.Bool.{Bool, true, false, not, _&&_}
 use mathlib.Core.List.{List, [], _∷_}
@@ -8,6 +8,7 @@ use mathlib.Core.Logic.{_⊎_}
 use Prim.Native.Nat.{ℕ, _^_}
 use lib.Dec.{eqb, ltb}
 use Rattle.register.specs.declared.frame.AccessWidth.{AccessWidth}
+use Rattle.register.specs.declared.frame.AccessWidth.the-variants.{Dword}
 use Rattle.answer.specs.Answer.{Outcome}
 use Rattle.history.specs.History.{Call, Setup, ReadDistributor, WriteDistributor, ReadCpuInterface, WriteCpuInterface, SetLevel, Pulse, IrqLevel, InterruptWord, Save, Load, callNumbers, isStart, called, noStart, iarRead}
 
@@ -106,3 +107,10 @@ OneShot f =
     → allInScope later ≡ true
     → noStart later ≡ true
     → gaveNumber (f (iarRead v) (behaved f later (first .state))) ≡ false
+
+-- "keeps BPR for show": an acknowledge answers the same after a write to BPR as without it
+abbrev pub PointForShow : Behaviour → Type 0
+PointForShow f =
+    (h : History) (v value : ℕ)
+    → f (iarRead v) (f (WriteCpuInterface v 0x08 Dword value) (wordsAfter f h) .state) .value
+    ≡ f (iarRead v) (wordsAfter f h) .value
