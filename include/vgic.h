@@ -109,10 +109,10 @@ vgic_answer vgic_setup(uint32_t *words, size_t length, uint64_t count, uint64_t 
 /* And a CPU interface's. */
 #define VGIC_GICC_CTLR 0x000u   /* control: bit 0 turns it on, bit 9 is the EOI mode */
 #define VGIC_GICC_PMR 0x004u    /* the priority that an interrupt has to be below */
-#define VGIC_GICC_BPR 0x008u    /* binary point b: one interrupts another only if its priority without the low b+1 bits is below */
+#define VGIC_GICC_BPR 0x008u    /* binary point b: an interrupt is given if its priority without the low b+1 bits is below RPR */
 #define VGIC_GICC_IAR 0x00cu    /* a read acknowledges an interrupt */
 #define VGIC_GICC_EOIR 0x010u   /* ends an interrupt, or in EOI mode drops its priority */
-#define VGIC_GICC_RPR 0x014u    /* the priority under service, without those bits */
+#define VGIC_GICC_RPR 0x014u    /* the priority under service, as the binary point cut it when it was given; 255 for none */
 #define VGIC_GICC_HPPIR 0x018u  /* the best that is pending */
 #define VGIC_GICC_ABPR 0x01cu   /* the binary point by another name */
 #define VGIC_GICC_AIAR 0x020u   /* IAR by another name */

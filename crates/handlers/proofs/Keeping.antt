@@ -1,5 +1,5 @@
--- What keeps an entry of a vCPU's stack and the vCPU's binary point: every call but a start that is accepted, a write to the vCPU's BPR, and the EOIR
--- that pops the entry. Assumes nothing.
+-- What keeps an entry of a vCPU's stack and the vCPU's binary point from growing: every call but a start that is accepted, a write that raises the
+-- vCPU's BPR, and the EOIR that pops the entry. Assumes nothing.
 use mathlib.Core.Path.{_≡_, refl, sym, ap, subst, _∙_}
 use mathlib.Core.Bool.{Bool, true, false, cond, _&&_, _||_, true≢false}
 use mathlib.Core.List.{List}
@@ -22,10 +22,11 @@ use Rattle.word.specs.Fields.{fieldAt}
 use Rattle.word.proofs.Cases.{same-or}
 use Rattle.state.specs.declared.layout.Shape.{Shape}
 use Rattle.state.specs.declared.layout.InterfaceValue.{InterfaceValue}
-use Rattle.state.specs.declared.layout.InterfaceValue.the-variants.{BinaryPoint, Depth}
+use Rattle.state.specs.declared.layout.InterfaceValue.the-variants.{Control, PriorityMask, BinaryPoint, Depth}
 use Rattle.state.specs.declared.words.Entry.{Entry}
 use Rattle.state.specs.Layout.{DistributorControl, Interface, Sources, Stack, Room, interfaceNumber, onStack, stackCapacity}
-use Rattle.state.specs.Words.{RecordThere, wordAt, changed, kept, interfaceAt, entryOf, entryAt}
+use Rattle.state.specs.Words.{RecordThere, wordAt, changed, withInterface, kept, interfaceAt, entryOf, entryAt}
+use Rattle.state.proofs.Accessors.{put-other, interface-same}
 use Rattle.state.proofs.SlotKinds.{kinds-apart, apart-record}
 use Rattle.select.specs.declared.Candidate.{Candidate}
 use Rattle.service.specs.Service.{depthAt, stackAt, isNewest, popped, Sound}
@@ -52,13 +53,13 @@ use Rattle.history.proofs.Always.{each-start, every-other-call}
 use Rattle.history.proofs.Chains.{place-chain}
 use Rattle.history.proofs.Each.{start-or-act, valid, each-call}
 use Rattle.waiting.proofs.Keeping.{acknowledge-cases}
-use Rattle.handlers.specs.Handlers.{Handler, setsPoint, isItsEnd, endsStory}
+use Rattle.handlers.specs.Handlers.{Handler, pointOf, raisesPoint, isItsEnd, endsStory}
 
--- entry i of v's stack is e, and v's binary point b
+-- entry i of v's stack is e, and v's binary point at most b
 pub record Stands (shape : Shape) (v i : ℕ) (e : Entry) (b : ℕ) (s : List ℕ) : Type 0 where
   pub deeper : i < depthAt shape v s
   pub entry : entryAt shape v i s ≡ e
-  pub point : interfaceAt shape v BinaryPoint s ≡ b
+  pub point : interfaceAt shape v BinaryPoint s ≤ b
 
 -- the moves that leave it so: all but pops, and another binary point
 abbrev Leaves : ℕ → Move → Type 0
@@ -92,7 +93,7 @@ module _ (shape : Shape) (v i : ℕ) (e : Entry) (b : ℕ) (exists : v < shape .
   -- the two words stay, and the stack is still as deep
   same : {s r : List ℕ} → It s → i < depthAt shape v r → wordAt shape (Stack v i) r ≡ wordAt shape (Stack v i) s
       → wordAt shape (Interface v BinaryPoint) r ≡ wordAt shape (Interface v BinaryPoint) s → It r
-  same p deep entry point = record { deeper = deep; entry = ap entryOf entry ∙ p .entry; point = ap (kept BinaryPoint) point ∙ p .point }
+  same p deep entry point = record { deeper = deep; entry = ap entryOf entry ∙ p .entry; point = subst (λ (w : ℕ). kept BinaryPoint w ≤ b) (sym point) (p .point) }
 
   module _ (s : List ℕ) (h : Sound shape s) (p : It s) where
     stays : (m : Move) → Open shape m s → (Touches m (Interface v Depth) → ⊥) → (Touches m (Stack v i) → ⊥) → (Touches m (Interface v BinaryPoint) → ⊥) → It (moved shape m s)
@@ -139,6 +140,14 @@ module _ (shape : Shape) (v i : ℕ) (e : Entry) (b : ℕ) (exists : v < shape .
         (popped-others shape u s lent some (Interface v BinaryPoint) exists (λ q. let k : interfaceNumber BinaryPoint ≡ interfaceNumber Depth = cc in omega (arith, k))
         (kinds-apart (Interface v BinaryPoint) (Stack u (depthAt shape u s - 1)) refl))
 
+  -- a write to BPR that does not raise it
+  point-stands : (s : List ℕ) (x : ℕ) → It s → kept BinaryPoint x ≤ b → Room shape s → It (withInterface shape v BinaryPoint x s)
+  point-stands s x p less room = record {
+    deeper = rw (put-other shape s (Interface v Depth) (Interface v BinaryPoint) (kept BinaryPoint x) exists exists (λ q. let k : interfaceNumber Depth ≡ interfaceNumber BinaryPoint = cc in omega (arith, k))) (p .deeper);
+    entry = ap entryOf (put-other shape s (Stack v i) (Interface v BinaryPoint) (kept BinaryPoint x) (exists, inside) exists (kinds-apart (Stack v i) (Interface v BinaryPoint) refl)) ∙ p .entry;
+    point = rw (interface-same shape s v BinaryPoint x room exists) less;
+  }
+
   -- Deactivate changes a record alone
   deactivated-stands : (u n : ℕ) (s : List ℕ) → Room shape s → u < shape .count → It s → It (deactivated shape u n s)
   deactivated-stands u n s room there p =
@@ -160,7 +169,7 @@ decoded-number x k = go (ltb x 1020)
     go false e = absurd (subst isNumber (sym e) tt)
 
 -- a handler's entry, and its binary point
-module _ (h : Handler) (e : Entry) (b : ℕ) (is : e .intid .0 ≡ h .interrupt) (exists : h .vcpu < h .shape .count) (inside : depthAt (h .shape) (h .vcpu) (h .words) < stackCapacity) where
+module _ (h : Handler) (e : Entry) (is : e .intid .0 ≡ h .interrupt) (exists : h .vcpu < h .shape .count) (inside : depthAt (h .shape) (h .vcpu) (h .words) < stackCapacity) where
   abbrev shape : Shape
   shape = h .shape
 
@@ -169,6 +178,9 @@ module _ (h : Handler) (e : Entry) (b : ℕ) (is : e .intid .0 ≡ h .interrupt)
 
   abbrev i : ℕ
   i = depthAt shape v (h .words)
+
+  abbrev b : ℕ
+  b = pointOf h
 
   abbrev Holds : List ℕ → Type 0
   Holds = Stands shape v i e b
@@ -180,9 +192,9 @@ module _ (h : Handler) (e : Entry) (b : ℕ) (is : e .intid .0 ≡ h .interrupt)
     -- a write of the vCPU u to its CPU interface, by its register's rule
     module _ (u value : ℕ) where
       abbrev spared : WriteRule → Type 0
-      spared r = (eqb u v && (setsPoint r || isItsEnd h r value s)) ≡ false
+      spared r = (eqb u v && (raisesPoint h r value || isItsEnd h r value s)) ≡ false
 
-      disturbed : (r : WriteRule) → u ≡ v → (setsPoint r || isItsEnd h r value s) ≡ true → spared r → ⊥
+      disturbed : (r : WriteRule) → u ≡ v → (raisesPoint h r value || isItsEnd h r value s) ≡ true → spared r → ⊥
       disturbed r q w z = true≢false (sym (simp (eq-eqb u v q, w)) ∙ z)
 
       -- a number that is v's newest and does not end the story is newer than the entry
@@ -217,13 +229,31 @@ module _ (h : Handler) (e : Entry) (b : ℕ) (is : e .intid .0 ≡ h .interrupt)
       by-dir Reserved there = p
       by-dir (Valid k) there = deactivated-stands shape v i e b exists inside u (k .0) s (sound .state) (there refl) p
 
+      -- a value of u's interface: v's binary point, which is not raised, or another
+      kept-stands : (k : InterfaceValue) → onStack (Interface u k) ≡ false → u < shape .count → spared (Keeps k) → Holds (withInterface shape u k value s)
+      kept-stands k off there z = same-or u v
+          (go k off z)
+          (λ q. other k off (λ w. q (cc)))
+        where
+          other : (k : InterfaceValue) → onStack (Interface u k) ≡ false → (Interface v BinaryPoint ≡ Interface u k → ⊥) → Holds (withInterface shape u k value s)
+          other k off apart = move-stands shape v i e b exists inside s sound p (Kept u k value) apart (record { exists = there; off-depth = off })
+
+          low : (x : ℕ) → u ≡ v → spared (Keeps BinaryPoint) → x ≡ kept BinaryPoint value → x ≤ b
+          low x q z w = le-of (ltb b x) refl
+            where
+              le-of : (c : Bool) → ltb b x ≡ c → x ≤ b
+              le-of true g = absurd (disturbed (Keeps BinaryPoint) q (simp (rw w at g)) z)
+              le-of false g = ltb-false b x g
+
+          go : (k : InterfaceValue) → onStack (Interface u k) ≡ false → spared (Keeps k) → u ≡ v → Holds (withInterface shape u k value s)
+          go BinaryPoint off z q = rw q (point-stands shape v i e b exists inside s value p (low (kept BinaryPoint value) q z refl) (sound .state))
+          go Control off z q = other Control off (λ m. let k : interfaceNumber BinaryPoint ≡ interfaceNumber Control = cc in omega (arith, k))
+          go PriorityMask off z q = other PriorityMask off (λ m. let k : interfaceNumber BinaryPoint ≡ interfaceNumber PriorityMask = cc in omega (arith, k))
+          go Depth off z q = other Depth off (λ m. let k : interfaceNumber BinaryPoint ≡ interfaceNumber Depth = cc in omega (arith, k))
+
       by-rule : (r : WriteRule) → OffDepths u r → (writeByLooksUp r value ≡ true → u < shape .count) → spared r → Holds (writeBy shape u r value s)
       by-rule Ignored off there z = p
-      by-rule (Keeps k) off there z =
-          move-stands shape v i e b exists inside s sound p (Kept u k value)
-          (λ q. let whose : u ≡ v = cc in let point : BinaryPoint ≡ k = cc in
-          disturbed (Keeps k) whose (subst (λ (x : InterfaceValue). (setsPoint (Keeps x) || false) ≡ true) point refl) z)
-          (record { exists = there refl; off-depth = off })
+      by-rule (Keeps k) off there z = kept-stands k off (there refl) z
       by-rule Ends off there z = by-number z (decodedEoi value) refl there
       by-rule Deactivates off there z = by-dir (decodedEoi value) there
 

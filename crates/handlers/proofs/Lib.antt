@@ -1,3 +1,4 @@
 -- The kernel's story, proved.
 pub mod Keeping
+pub mod Regrouping
 pub mod Shielded

@@ -182,7 +182,7 @@ module _ (first : Call) (words : List ℕ) (started : Started first words) (cs :
   pub demand-three : Orderly stored after
   demand-three = always .lawful .orderly
 
-  -- "So at most 255 are held ..
+  -- "So at most 255 are held", by document 02, Two, 128 ..
   pub at-most-capacity-held : (v : ℕ) → v < stored .count → depthAt stored v after ≤ stackCapacity
   at-most-capacity-held v exists = at-most-capacity stored v after demand-three exists
 

@@ -1,6 +1,6 @@
 -- What holds of a controller after any sequence of calls: the mission's demand 3 in its own words, with what document 02 adds to them
--- (`Orderly`), and the lawful states of its request One (`Lawful`), which have more. Demand 3 alone is not kept by every call: an SGI with its line high would be set
--- pending by an enable with no source set. A lawful state stays lawful.
+-- (`Orderly`), and the lawful states of its request One (`Lawful`), which have more. Demand 3 alone is not kept by every call: an SGI with its
+-- line high would be set pending by an enable with no source set. A lawful state stays lawful.
 use mathlib.Core.Path.{_≡_}
 use mathlib.Core.Bool.{true, false, not}
 use mathlib.Core.List.{List}

@@ -37,7 +37,7 @@ module _ (shape : Shape) (s : List ℕ) (h : Controls shape s) (buffer : List �
   a-buffer-of-that-size-is-enough room =
       ap (λ (o : Outcome). o .refusal) (lawful-states-are-saved shape s (h .lawful) buffer (omega (arith, room, image-fits shape s (h .lawful))))
 
-  -- .. of any count and limit: 15,172 bytes
+  -- .. of any count and limit: 11,108 bytes
   pub enough-for-the-largest-is-enough : largestImageBytes ≤ length buffer → called (Save buffer) s .refusal ≡ 0
   enough-for-the-largest-is-enough room =
       let limits = h .lawful .in-range .state .limits in

@@ -148,6 +148,11 @@ waits-by-0 : called (iarRead 0) (behaved called serving begun) .value ≡ 1023
 unfolding behaved ring serving zeros computing
 waits-by-0 = refl
 
+-- and the write itself wakes
+a-bpr-write-wakes : called setPoint (behaved called serving begun) .wake ≡ 1
+unfolding behaved ring serving setPoint zeros computing
+a-bpr-write-wakes = refl
+
 pub no-point-for-show : (f : Behaviour) → KeepsPromises f → PointForShow f → ⊥
 unfolding behaved ring serving setPoint zeros computing
 no-point-for-show f m k =

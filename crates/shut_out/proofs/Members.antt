@@ -7,10 +7,11 @@ use mathlib.Core.Logic.{inl}
 use Prim.Native.Nat.{ℕ}
 use native.Mathlib.Omega.{arith}
 use borrow.Author.Tests.{not-true}
+use Rattle.register.specs.declared.frame.AccessWidth.the-variants.{Dword}
 use Rattle.register.specs.declared.frame.Refusal.the-variants.{BrokenState}
 use Rattle.state.proofs.Tests.{left-true, right-true}
 use Rattle.answer.specs.Answer.{Outcome, refused, gave}
-use Rattle.history.specs.History.{Call, Looks, ReadsRegister, WritesRegister, WritesPlace, Signals, Deed, Starts, Acts, deed, startsAnew, isStart, called, noStart, iarRead}
+use Rattle.history.specs.History.{Call, WriteCpuInterface, Looks, ReadsRegister, WritesRegister, WritesPlace, Signals, Deed, Starts, Acts, deed, startsAnew, isStart, called, noStart, iarRead}
 use Rattle.shut_out.specs.ShutOut.{Behaviour, KeepsPromises, behaved, wordsAfter, Frame, Access, readCall, writeCall, Refuser, ReadsNothing, IgnoresWrites, gaveNumber, OneShot, PointForShow}
 
 pub one-meets : KeepsPromises called
@@ -35,6 +36,10 @@ a-point-for-show h v value = refl
 -- one whose writes leave the words as they were ignores them, whatever it answers
 pub unchanged-ignores : (frame : Frame) (f : Behaviour) → ((a : Access) (value : ℕ) (s : List ℕ) → f (writeCall frame a value) s .state ≡ s) → IgnoresWrites frame f
 unchanged-ignores frame f k h a b value = ap (λ (s : List ℕ). f (readCall frame b) s .value) (k a value (wordsAfter f h))
+
+-- .. and one whose writes to BPR do keeps it for show
+pub unchanged-for-show : (f : Behaviour) → ((v value : ℕ) (s : List ℕ) → f (WriteCpuInterface v 0x08 Dword value) s .state ≡ s) → PointForShow f
+unchanged-for-show f k h v value = ap (λ (s : List ℕ). f (iarRead v) s .value) (k v value (wordsAfter f h))
 
 -- one that gives SGI 5 while it has a word, which setup leaves it and an acknowledge takes away
 abbrev acknowledges : List ℕ → Outcome

@@ -1,6 +1,7 @@
 -- What the promises of the public calls shut out: document 01, "What the promises have to hold": "Demand 2, whose calls demand 3 speaks of,
 -- shuts out a controller that refuses everything, one that reads 1023 or 0 everywhere, one that ignores writes, and one that acknowledges the
--- first interrupt properly and answers 1023 ever after"; and, by document 02, Two, one that "keeps BPR for show". Each kind is as wide as these words allow, so that the theorems shut out the most.
+-- first interrupt properly and answers 1023 ever after". A fifth is what document 02, Two, puts an end to: one that "keeps BPR for show". Each
+-- kind is as wide as these words allow, so that the theorems shut out the most.
 use mathlib.Core.Path.{_≡_}
 use mathlib.Core.Bool.{Bool, true, false, not, _&&_}
 use mathlib.Core.List.{List, [], _∷_}

@@ -21,12 +21,12 @@ use Rattle.state.specs.declared.layout.InterfaceValue.the-variants.{PriorityMas
 use Rattle.state.specs.Words.{recordAt, interfaceAt}
 use Rattle.answer.specs.Answer.{Outcome, gave}
 use Rattle.lawful.specs.Lawful.{Controls}
-use Rattle.history.specs.History.{Call, Setup, called, run, noStart}
+use Rattle.history.specs.History.{Call, Setup, called, run, noStart, iarRead, eoirWrite}
 use Rattle.history.proofs.Always.{a-fresh-controller, same-controller}
 use Rattle.corners.specs.Corners.{zeros}
 use Rattle.corners.proofs.Started.{started, setup-started, computing}
 use Rattle.stories.specs.Stories.{Takes, ahead, NoneAhead, TwoRings, bothWait, firstRead, oneWaits, secondRead, Sleeping, PulseInFlight, turn, readAgain, InService}
-use Rattle.handlers.specs.Handlers.{ownGroup, nextRead, later, Runs, Urgent}
+use Rattle.handlers.specs.Handlers.{Handler, nextRead, runningRead, later, Runs, Foremost}
 use Rattle.handlers.proofs.Shielded.{a-handler-is-shielded}
 use Rattle.stories.proofs.TwoRings.{both-given}
 use Rattle.stories.proofs.PulseInFlight.{given-again}
@@ -208,17 +208,23 @@ urgent-turn : tested (shaped 2 36) 0 35 (later (handlerFrom urgentRings beforeIt
 unfolding run zeros beforeHandler urgentRings computing
 urgent-turn = refl
 
-urgent-waits : Urgent (handlerFrom urgentRings beforeIt) 35
+urgent-waits : Foremost (handlerFrom urgentRings beforeIt) 35
 unfolding run zeros beforeHandler urgentRings computing
-urgent-waits = record { numbered = omega arith; on = refl; waits = refl; none-ahead = none-ahead (shaped 2 36) 0 35 (later (handlerFrom urgentRings beforeIt)) urgent-turn; smaller = omega arith }
+urgent-waits = record { numbered = omega arith; on = refl; waits = refl; none-ahead = none-ahead (shaped 2 36) 0 35 (later (handlerFrom urgentRings beforeIt)) urgent-turn }
 
-neighbour-at : (ownGroup (handlerFrom neighbourRings beforeIt) ≡ 0x40) × (nextRead (handlerFrom neighbourRings beforeIt) .value ≡ 1023)
+-- what runs, what is given while it does, and what after its EOIR
+pub record NeighbourWaits (h : Handler) : Type 0 where
+  pub running : runningRead h .value ≡ 0x40
+  pub waits : nextRead false h .value ≡ 1023
+  pub then-given : called (iarRead 0) (called (eoirWrite 0 33) (later h) .state) .value ≡ 34
+
+neighbour-at : NeighbourWaits (handlerFrom neighbourRings beforeIt)
 unfolding run zeros beforeHandler neighbourRings computing
-neighbour-at = (refl, refl)
+neighbour-at = record { running = a-handler-is-shielded (handlerFrom neighbourRings beforeIt) neighbour-runs .runs refl; waits = refl; then-given = refl }
 
-urgent-at : nextRead (handlerFrom urgentRings beforeIt) .value ≡ 35
+urgent-at : nextRead false (handlerFrom urgentRings beforeIt) .value ≡ 35
 unfolding run zeros beforeHandler urgentRings computing
-urgent-at = a-handler-is-shielded (handlerFrom urgentRings beforeIt) urgent-runs .urgent-given 35 urgent-waits
+urgent-at = a-handler-is-shielded (handlerFrom urgentRings beforeIt) urgent-runs .smaller-given false 35 urgent-waits refl (omega arith) .given
 
 handler-words : beforeIt ≡ afterCalls 2 36 beforeHandler
 unfolding zeros
@@ -230,13 +236,10 @@ neighbour-running = subst (λ (s : List ℕ). Runs (handlerFrom neighbourRings s
 pub urgent-running : Runs (handlerExample urgentRings)
 urgent-running = subst (λ (s : List ℕ). Runs (handlerFrom urgentRings s)) handler-words urgent-runs
 
--- 0x47 is of group 0x40, and while it runs SPI 34, of 0x41, waits
-pub own-group : ownGroup (handlerExample neighbourRings) ≡ 0x40
-own-group = subst (λ (s : List ℕ). ownGroup (handlerFrom neighbourRings s) ≡ 0x40) handler-words (neighbour-at .0)
-
-pub neighbour-waits : nextRead (handlerExample neighbourRings) .value ≡ 1023
-neighbour-waits = subst (λ (s : List ℕ). nextRead (handlerFrom neighbourRings s) .value ≡ 1023) handler-words (neighbour-at .1)
+-- 0x47 runs at 0x40, and while it does SPI 34, of 0x41, waits; when it is ended SPI 34 is given
+pub neighbour-waits : NeighbourWaits (handlerExample neighbourRings)
+neighbour-waits = subst (λ (s : List ℕ). NeighbourWaits (handlerFrom neighbourRings s)) handler-words neighbour-at
 
 -- SPI 35, of 0x3f, is given
-pub urgent-read : nextRead (handlerExample urgentRings) .value ≡ 35
-urgent-read = subst (λ (s : List ℕ). nextRead (handlerFrom urgentRings s) .value ≡ 35) handler-words urgent-at
+pub urgent-read : nextRead false (handlerExample urgentRings) .value ≡ 35
+urgent-read = subst (λ (s : List ℕ). nextRead false (handlerFrom urgentRings s) .value ≡ 35) handler-words urgent-at

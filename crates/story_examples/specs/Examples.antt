@@ -1,5 +1,6 @@
 -- An example of each story of crates/stories and crates/handlers, so that a reader need not wonder whether its hypotheses can hold. Each starts from a fresh
 -- controller, in words that were 0 and are just enough.
+use mathlib.Core.Bool.{false}
 use mathlib.Core.List.{List, [], _∷_}
 use Prim.Native.Nat.{ℕ}
 use Rattle.register.specs.declared.frame.AccessWidth.the-variants.{Byte, Dword}
@@ -97,16 +98,17 @@ beforeHandler =
     ∷ Pulse 0 33
     ∷ []
 
--- While it runs its neighbour SPI 34 is pulsed; vCPU 0 acknowledges and writes 34 to EOIR, both in vain, and vCPU 1 sets its own binary point.
+-- While it runs its neighbour SPI 34 is pulsed; vCPU 0 acknowledges and writes 34 to EOIR, both in vain, and sets its binary point to 2 again; vCPU 1
+-- sets its own to 7.
 unfoldable pub neighbourRings : List Call
-neighbourRings = Pulse 0 34 ∷ iarRead 0 ∷ WriteCpuInterface 0 0x10 Dword 34 ∷ WriteCpuInterface 1 0x08 Dword 0 ∷ []
+neighbourRings = Pulse 0 34 ∷ iarRead 0 ∷ WriteCpuInterface 0 0x10 Dword 34 ∷ WriteCpuInterface 0 0x08 Dword 0x2 ∷ WriteCpuInterface 1 0x08 Dword 7 ∷ []
 
 -- .. and SPI 35 too
 unfoldable pub urgentRings : List Call
 urgentRings = Pulse 0 34 ∷ iarRead 0 ∷ Pulse 0 35 ∷ []
 
 abbrev pub handlerFrom : List Call → List ℕ → Handler
-handlerFrom meanwhile s = record { shape = shaped 2 36; words = s; vcpu = 0; interrupt = 33; source = 0; meanwhile = meanwhile }
+handlerFrom meanwhile s = record { shape = shaped 2 36; words = s; vcpu = 0; alias = false; interrupt = 33; source = 0; meanwhile = meanwhile }
 
 abbrev pub handlerExample : List Call → Handler
 handlerExample meanwhile = handlerFrom meanwhile (afterCalls 2 36 beforeHandler)

@@ -36,13 +36,13 @@ pub const GICD_SPENDSGIR: u64 = 0xf20;
 pub const GICC_CTLR: u64 = 0x000;
 /// The priority that an interrupt has to be below.
 pub const GICC_PMR: u64 = 0x004;
-/// Binary point b: one interrupts another only if its priority without the low b+1 bits is below.
+/// Binary point b: an interrupt is given if its priority without the low b+1 bits is below RPR.
 pub const GICC_BPR: u64 = 0x008;
 /// A read acknowledges an interrupt.
 pub const GICC_IAR: u64 = 0x00c;
 /// Ends an interrupt, or in EOI mode drops its priority.
 pub const GICC_EOIR: u64 = 0x010;
-/// The priority under service, without those bits.
+/// The priority under service, as the binary point cut it when it was given; 255 for none.
 pub const GICC_RPR: u64 = 0x014;
 /// The best that is pending.
 pub const GICC_HPPIR: u64 = 0x018;
