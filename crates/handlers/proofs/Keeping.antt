@@ -24,7 +24,7 @@ use Rattle.state.specs.declared.layout.Shape.{Shape}
 use Rattle.state.specs.declared.layout.InterfaceValue.{InterfaceValue}
 use Rattle.state.specs.declared.layout.InterfaceValue.the-variants.{Control, PriorityMask, BinaryPoint, Depth}
 use Rattle.state.specs.declared.words.Entry.{Entry}
-use Rattle.state.specs.Layout.{DistributorControl, Interface, Sources, Stack, Room, interfaceNumber, onStack, stackCapacity}
+use Rattle.state.specs.Layout.{DistributorControl, Interface, Sources, Stack, Room, numberOf, interfaceNumber, onStack, stackCapacity}
 use Rattle.state.specs.Words.{RecordThere, wordAt, changed, withInterface, kept, interfaceAt, entryOf, entryAt}
 use Rattle.state.proofs.Accessors.{put-other, interface-same}
 use Rattle.state.proofs.SlotKinds.{kinds-apart, apart-record}
@@ -54,6 +54,13 @@ use Rattle.history.proofs.Chains.{place-chain}
 use Rattle.history.proofs.Each.{start-or-act, valid, each-call}
 use Rattle.waiting.proofs.Keeping.{acknowledge-cases}
 use Rattle.handlers.specs.Handlers.{Handler, pointOf, raisesPoint, isItsEnd, endsStory}
+
+-- a binary point is no other value
+other-value : (k : InterfaceValue) (u v : ℕ) → (interfaceNumber BinaryPoint ≡ interfaceNumber k → ⊥) → Interface v BinaryPoint ≡ Interface u k → ⊥
+other-value k u v differ q = differ (ap numberOf q)
+
+pub point-apart : (u v : ℕ) → Interface v BinaryPoint ≡ Interface u Depth → ⊥
+point-apart u v = other-value Depth u v (λ e. omega (arith, e))
 
 -- entry i of v's stack is e, and v's binary point at most b
 pub record Stands (shape : Shape) (v i : ℕ) (e : Entry) (b : ℕ) (s : List ℕ) : Type 0 where
@@ -124,7 +131,7 @@ module _ (shape : Shape) (v i : ℕ) (e : Entry) (b : ℕ) (exists : v < shape .
         (given-others shape u c s lent (Stack v i) (exists, inside) (apart-record (Stack v i) u n refl) (kinds-apart (Stack v i) (Sources u n) refl) (kinds-apart (Stack v i) (Interface u Depth) refl)
         (λ q. let whose : u ≡ v = cc in let top : i ≡ depthAt shape u s = cc in omega (arith, p .deeper, top, ap (λ (w : ℕ). depthAt shape w s) whose)))
         (given-others shape u c s lent (Interface v BinaryPoint) exists (apart-record (Interface v BinaryPoint) u n refl) (kinds-apart (Interface v BinaryPoint) (Sources u n) refl)
-        (λ q. let k : interfaceNumber BinaryPoint ≡ interfaceNumber Depth = cc in omega (arith, k)) (kinds-apart (Interface v BinaryPoint) (Stack u (depthAt shape u s)) refl))
+        (point-apart u v) (kinds-apart (Interface v BinaryPoint) (Stack u (depthAt shape u s)) refl))
     move-stands (Popped u) leaves o = absurd leaves
 
     -- a pop of another vCPU's, or of a newer entry
@@ -137,13 +144,13 @@ module _ (shape : Shape) (v i : ℕ) (e : Entry) (b : ℕ) (exists : v < shape .
         (λ q. rw (popped-others shape u s lent some (Interface v Depth) exists (λ w. q (sym (cc))) (kinds-apart (Interface v Depth) (Stack u (depthAt shape u s - 1)) refl)) (p .deeper)))
         (popped-others shape u s lent some (Stack v i) (exists, inside) (kinds-apart (Stack v i) (Interface u Depth) refl)
         (λ q. let whose : u ≡ v = cc in let top : i ≡ depthAt shape u s - 1 = cc in omega (arith, newer whose, top, ap (λ (w : ℕ). depthAt shape w s) whose)))
-        (popped-others shape u s lent some (Interface v BinaryPoint) exists (λ q. let k : interfaceNumber BinaryPoint ≡ interfaceNumber Depth = cc in omega (arith, k))
+        (popped-others shape u s lent some (Interface v BinaryPoint) exists (point-apart u v)
         (kinds-apart (Interface v BinaryPoint) (Stack u (depthAt shape u s - 1)) refl))
 
   -- a write to BPR that does not raise it
   point-stands : (s : List ℕ) (x : ℕ) → It s → kept BinaryPoint x ≤ b → Room shape s → It (withInterface shape v BinaryPoint x s)
   point-stands s x p less room = record {
-    deeper = rw (put-other shape s (Interface v Depth) (Interface v BinaryPoint) (kept BinaryPoint x) exists exists (λ q. let k : interfaceNumber Depth ≡ interfaceNumber BinaryPoint = cc in omega (arith, k))) (p .deeper);
+    deeper = rw (put-other shape s (Interface v Depth) (Interface v BinaryPoint) (kept BinaryPoint x) exists exists (λ q. point-apart v v (sym q))) (p .deeper);
     entry = ap entryOf (put-other shape s (Stack v i) (Interface v BinaryPoint) (kept BinaryPoint x) (exists, inside) exists (kinds-apart (Stack v i) (Interface v BinaryPoint) refl)) ∙ p .entry;
     point = rw (interface-same shape s v BinaryPoint x room exists) less;
   }
@@ -247,9 +254,9 @@ module _ (h : Handler) (e : Entry) (is : e .intid .0 ≡ h .interrupt) (exists :
 
           go : (k : InterfaceValue) → onStack (Interface u k) ≡ false → spared (Keeps k) → u ≡ v → Holds (withInterface shape u k value s)
           go BinaryPoint off z q = rw q (point-stands shape v i e b exists inside s value p (low (kept BinaryPoint value) q z refl) (sound .state))
-          go Control off z q = other Control off (λ m. let k : interfaceNumber BinaryPoint ≡ interfaceNumber Control = cc in omega (arith, k))
-          go PriorityMask off z q = other PriorityMask off (λ m. let k : interfaceNumber BinaryPoint ≡ interfaceNumber PriorityMask = cc in omega (arith, k))
-          go Depth off z q = other Depth off (λ m. let k : interfaceNumber BinaryPoint ≡ interfaceNumber Depth = cc in omega (arith, k))
+          go Control off z q = other Control off (other-value Control u v (λ e. omega (arith, e)))
+          go PriorityMask off z q = other PriorityMask off (other-value PriorityMask u v (λ e. omega (arith, e)))
+          go Depth off z q = other Depth off (other-value Depth u v (λ e. omega (arith, e)))
 
       by-rule : (r : WriteRule) → OffDepths u r → (writeByLooksUp r value ≡ true → u < shape .count) → spared r → Holds (writeBy shape u r value s)
       by-rule Ignored off there z = p

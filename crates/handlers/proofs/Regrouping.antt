@@ -3,14 +3,13 @@ use mathlib.Core.Path.{_≡_, refl, sym, ap, subst, _∙_}
 use mathlib.Core.Bool.{true}
 use mathlib.Core.List.{List}
 use Prim.Native.Nat.{ℕ, _%_, _^_, _<_}
-use native.Mathlib.Omega.{arith}
 use Rattle.register.specs.declared.frame.AccessWidth.the-variants.{Dword}
 use Rattle.register.specs.declared.«cpu_interface».CpuInterfaceAccess.the-variants as interface
 use Rattle.register.specs.declared.«cpu_interface».CpuInterfaceRegister.the-variants.{Bpr}
 use Rattle.register.specs.CpuInterface.{registers, registerIn, registerAt, locateCpuInterface}
 use Rattle.state.specs.declared.layout.Shape.{Shape}
 use Rattle.state.specs.declared.layout.InterfaceValue.the-variants.{BinaryPoint, Depth}
-use Rattle.state.specs.Layout.{Interface, Stack, interfaceNumber}
+use Rattle.state.specs.Layout.{Interface, Stack}
 use Rattle.state.specs.Words.{kept, withInterface}
 use Rattle.state.proofs.Accessors.{put-other}
 use Rattle.state.proofs.SlotKinds.{kinds-apart}
@@ -25,6 +24,7 @@ use Rattle.moves.proofs.Sounds.{lawful-sound}
 use Rattle.history.specs.History.{WriteCpuInterface, called, rprRead}
 use Rattle.history.proofs.Always.{every-other-call}
 use Rattle.history.proofs.Each.{valid}
+use Rattle.handlers.proofs.Keeping.{point-apart}
 use Rattle.handlers.proofs.Shielded.{running-call}
 
 bpr-at : locateCpuInterface 0x08 Dword ≡ interface.At Bpr
@@ -43,7 +43,7 @@ module _ (shape : Shape) (s : List ℕ) (h : Controls shape s) (v value : ℕ) (
   a-bpr-write-regroups-nothing u there =
       subst (λ (o : Outcome). stackAt shape u (o .state) ≡ stackAt shape u s) (sym bpr-call)
       (stack-same shape u s (withInterface shape v BinaryPoint (value % 2 ^ 32) s) (served shape s (lawful-sound (h .lawful)) u there .deep)
-      (put-other shape s (Interface u Depth) (Interface v BinaryPoint) (kept BinaryPoint (value % 2 ^ 32)) there exists (λ q. let k : interfaceNumber Depth ≡ interfaceNumber BinaryPoint = cc in omega (arith, k)))
+      (put-other shape s (Interface u Depth) (Interface v BinaryPoint) (kept BinaryPoint (value % 2 ^ 32)) there exists (λ q. point-apart u v (sym q)))
       (λ i b. put-other shape s (Stack u i) (Interface v BinaryPoint) (kept BinaryPoint (value % 2 ^ 32)) (there, b) exists (kinds-apart (Stack u i) (Interface v BinaryPoint) refl)))
 
   pub rpr-reads-as-before : (u : ℕ) → u < shape .count → called (rprRead u) after .value ≡ called (rprRead u) s .value

@@ -8,9 +8,9 @@ use borrow.Author.Tests.{lt-ltb, ltb-true, eqb-true}
 use Rattle.register.proofs.Named.{rpr-at}
 use Rattle.word.proofs.Cases.{same-or}
 use Rattle.state.specs.declared.layout.Shape.{Shape}
-use Rattle.state.specs.declared.layout.InterfaceValue.the-variants.{BinaryPoint, Depth}
+use Rattle.state.specs.declared.layout.InterfaceValue.the-variants.{BinaryPoint}
 use Rattle.state.specs.declared.words.Entry.{Entry}
-use Rattle.state.specs.Layout.{Interface, Sources, Stack, interfaceNumber, stackCapacity}
+use Rattle.state.specs.Layout.{Interface, Sources, Stack, stackCapacity}
 use Rattle.state.specs.Words.{recordAt, interfaceAt, kept}
 use Rattle.state.proofs.SlotKinds.{kinds-apart, apart-record}
 use Rattle.select.specs.declared.Candidate.{Candidate}
@@ -38,7 +38,7 @@ use Rattle.stories.proofs.Calls.{acknowledge-call}
 use Rattle.stories.proofs.Turns.{candidate-call}
 use Rattle.levels.proofs.Rises.{aiar-is-iar}
 use Rattle.handlers.specs.Handlers.{acknowledgeRead, Handler, entered, later, nextRead, runningRead, pointOf, groupIn, ownGroup, isInnermost, endsStory, Runs, Foremost, IsGiven, Shielded}
-use Rattle.handlers.proofs.Keeping.{Stands, call-stands}
+use Rattle.handlers.proofs.Keeping.{point-apart, Stands, call-stands}
 
 -- RPR reads the running priority
 pub running-call : (shape : Shape) (s : List ℕ) → Controls shape s → (v : ℕ) → v < shape .count → called (rprRead v) s .value ≡ running shape v s
@@ -84,7 +84,7 @@ module _ (h : Handler) (r : Runs h) where
           entry = newest shape words (r .controls .lawful) v c o ∙ (λ j. record { intid = record { 0 = number j }; priority = record { 0 = groupPriority (pointOf h) (its j) } });
           point = subst (λ (w : ℕ). kept BinaryPoint w ≤ pointOf h)
               (sym (given-others shape v c words lent (Interface v BinaryPoint) (r .exists) (apart-record (Interface v BinaryPoint) v (c .intid .0) refl) (kinds-apart (Interface v BinaryPoint) (Sources v (c .intid .0)) refl)
-              (λ w. let k : interfaceNumber BinaryPoint ≡ interfaceNumber Depth = cc in omega (arith, k)) (kinds-apart (Interface v BinaryPoint) (Stack v below) refl))) (omega arith);
+              (point-apart v v) (kinds-apart (Interface v BinaryPoint) (Stack v below) refl))) (omega arith);
         };
       }
 

@@ -55,7 +55,7 @@ module _ (shape : Shape) (above : ℕ) (image : List ℕ) (at : ℕ) where
   entry-exact e = subst Standing e entry-stands
 
 -- the numbers of entry i
-abbrev entriesOf : Shape → ℕ → List ℕ → ℕ → List ℕ
+abbrev pub entriesOf : Shape → ℕ → List ℕ → ℕ → List ℕ
 entriesOf shape v s i = entryNumbers (entryAt shape v i s)
 
 module _ (shape : Shape) (v : ℕ) (s image : List ℕ) (at next : ℕ) where

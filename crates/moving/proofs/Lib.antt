@@ -17,3 +17,4 @@ pub mod Opens
 pub mod Walks
 pub mod Loads
 pub mod Moving
+pub mod Stacks
