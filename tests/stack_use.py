@@ -1,7 +1,8 @@
 #!/usr/bin/env python3
 """Prints how much stack each exported function of a static library can use, from its compiled code.
 
-usage: tests/stack_use.py ARCHIVE
+usage: tests/stack_use.py [--leaf NAME] ARCHIVE [FUNCTION..]    of these functions instead, where each stands by itself, as in unoptimised
+code; a function that is not in the archive may be called where it is named as one that uses no stack
 
 Every path through every function is followed with the stack pointer's distance from its value at entry, and the deepest path of calls is
 printed in bytes, the return address that a call pushes (x86-64) included. Fails on what it cannot follow: a call of an address that is
@@ -213,8 +214,8 @@ class Arm:
 
 
 class Function:
-    def __init__(self, code, machine, sections, tables):
-        self.code, self.machine, self.sections, self.tables = code, machine, sections, tables
+    def __init__(self, name, code, machine, sections, tables):
+        self.name, self.code, self.machine, self.sections, self.tables = name, code, machine, sections, tables
         self.at = {it.address: index for index, it in enumerate(code)}
         self.depths, self.todo, self.switches = {}, [], set()
         self.deepest, self.calls = 0, []
@@ -253,7 +254,8 @@ class Function:
         if kind == "computed call":
             raise Unknown(f"a computed call at {it.address:#x}")
         if kind == "call":
-            self.calls.append((self.target(it), depth + self.machine.RETURN_ADDRESS))
+            target = self.target(it)
+            self.calls.append((target if isinstance(target, str) else self.name, depth + self.machine.RETURN_ADDRESS))
         if kind == "switch":
             self.note_switch(index, depth)
         if kind == "return" and depth != 0:
@@ -281,9 +283,9 @@ class Function:
             self.meet(self.at[address], depth)
 
     def walk_switched(self):
-        """What only a switch comes to; the distances have to fit where its cases join the rest."""
+        """What only a switch comes to; the distances have to fit where its cases join the rest. A trap that nothing comes to uses nothing."""
         for index, it in enumerate(self.code):
-            if index in self.depths or self.machine.padding(it):
+            if index in self.depths or self.machine.padding(it) or self.machine.step(it)[0] == "stop":
                 continue
             if len(self.switches) != 1:
                 raise Unknown(f"nothing comes to {it.address:#x}, or switches at {sorted(self.switches)} bytes")
@@ -291,44 +293,51 @@ class Function:
             self.walk()
 
 
-def deepest(name, known, path=()):
-    """The most bytes below this function's entry, and the calls that use them."""
-    if name in path:
-        raise Unknown(f"recursion: {' '.join(path)} {name}")
-    if name not in known:
-        raise Unknown(f"{name} is not in the archive")
-    own = known[name]
-    best = (own.deepest, (name,))
-    for callee, depth in own.calls:
-        below, calls = deepest(callee, known, path + (name,))
-        best = max(best, (depth + below, (name,) + calls))
-    return best
+class Archive:
+    """What each function of an archive uses; a function is read when it is first come to."""
+
+    def __init__(self, path, leaf):
+        self.path = path
+        self.disassembler, listing = tool(path)
+        self.machine = X86 if "elf64-x86-64" in listing else Arm if "aarch64" in listing else None
+        if self.machine is None:
+            raise Unknown("code for a machine not known here")
+        self.code, self.sections = functions(listing)
+        self.data = {"code": self.code, "rows": tables(self.disassembler, path), "bytes": contents(self.disassembler, path)}
+        self.known = {leaf: (0, (leaf,))}
+
+    def exported(self):
+        listing = subprocess.run([self.disassembler, "-t", self.path], capture_output=True, text=True, check=True).stdout
+        found = re.findall(r"^[0-9a-f]+ g\s+F \.text\S*\s+[0-9a-f]+ (\S+)$", listing, re.M)
+        if not found:
+            raise Unknown("no exported function")
+        return sorted(found)
+
+    def deepest(self, name, path=()):
+        """The most bytes below this function's entry, and the calls that use them."""
+        if name in path:
+            raise Unknown(f"recursion: {' '.join(path)} {name}")
+        if name not in self.known:
+            if name not in self.code:
+                raise Unknown(f"{name} is not in the archive")
+            try:
+                own = Function(name, self.code[name], self.machine, self.sections, self.data)
+            except Unknown as why:
+                raise Unknown(f"{name}: {why}") from None
+            best = (own.deepest, (name,))
+            for callee, depth in own.calls:
+                below, calls = self.deepest(callee, path + (name,))
+                best = max(best, (depth + below, (name,) + calls))
+            self.known[name] = best
+        return self.known[name]
 
 
-def exported(name, archive):
-    listing = subprocess.run([name, "-t", archive], capture_output=True, text=True, check=True).stdout
-    return re.findall(r"^[0-9a-f]+ g\s+F \.text\S*\s+[0-9a-f]+ (\S+)$", listing, re.M)
-
-
-def main(archive):
-    disassembler, listing = tool(archive)
-    machine = X86 if "elf64-x86-64" in listing else Arm if "aarch64" in listing else None
-    if machine is None:
-        raise Unknown("code for a machine not known here")
-    found, sections = functions(listing)
-    data = {"code": found, "rows": tables(disassembler, archive), "bytes": contents(disassembler, archive)}
-    known = {}
-    for name, code in found.items():
-        try:
-            known[name] = Function(code, machine, sections, data)
-        except Unknown as why:
-            raise Unknown(f"{name}: {why}") from None
-    public = exported(disassembler, archive)
-    if not public:
-        raise Unknown("no exported function")
-    for name in sorted(public):
-        below, calls = deepest(name, known)
-        print(f"{name} {below + machine.RETURN_ADDRESS} {' > '.join(calls[1:]) or '-'}")
+def main(*words):
+    leaf, (path, *names) = (words[1], words[2:]) if words[0] == "--leaf" else (None, words)
+    archive = Archive(path, leaf)
+    for name in names or archive.exported():
+        below, calls = archive.deepest(name)
+        print(f"{name} {below + archive.machine.RETURN_ADDRESS} {' > '.join(calls[1:]) or '-'}")
 
 
 if __name__ == "__main__":

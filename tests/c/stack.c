@@ -82,7 +82,7 @@ static uint64_t of_frame(const void *read, const void *write, uint64_t size, uin
 }
 
 /* Takes what is ready and ends it, in both EOI modes. */
-static void service(uint64_t *of_read, uint64_t *of_write)
+static void service(uint64_t *of_read, uint64_t *of_eoir, uint64_t *of_dir)
 {
     for (uint64_t turn = 0; turn < 200; turn++) {
         vgic_write_v2_cpu_interface(words, length, 0, 0, 4, turn % 2 ? 0x201 : 1);
@@ -91,9 +91,9 @@ static void service(uint64_t *of_read, uint64_t *of_write)
         uint32_t stack = 3 + 52 * words[0] + words[1] - 32, depth = words[3 + 3];
         uint64_t number = depth ? words[stack + depth - 1] & 1023 : 1023;
         uint64_t end[6] = {(uint64_t)words, length, 0, 0x10, 4, number};
-        *of_write = deepest(*of_write, (const void *)vgic_write_v2_cpu_interface, end);
+        *of_eoir = deepest(*of_eoir, (const void *)vgic_write_v2_cpu_interface, end);
         uint64_t dir[6] = {(uint64_t)words, length, 0, 0x1000, 4, number};
-        *of_write = deepest(*of_write, (const void *)vgic_write_v2_cpu_interface, dir);
+        *of_dir = deepest(*of_dir, (const void *)vgic_write_v2_cpu_interface, dir);
     }
 }
 
@@ -128,7 +128,7 @@ static void moves(uint64_t *of_save, uint64_t *of_shape, uint64_t *of_load)
 
 int main(void)
 {
-    enum { CALLS = 11 };
+    enum { CALLS = 13 };
     uint64_t most[CALLS] = {0}, of_words = 0, of_bytes = 0, of_setup = 0;
     for (uint64_t count = 0; count < 10; count++)
         for (uint64_t limit = 31; limit <= 1021; limit++) {
@@ -140,8 +140,8 @@ int main(void)
     printf("vgic_state_words %d\nvgic_image_bytes %d\nvgic_setup %d\n", (int)of_words, (int)of_bytes, (int)of_setup);
     for (uint64_t count = 1; count <= 8; count += 7) {
         boot(count, count == 1 ? 40 : 1020);
-        uint64_t write = 0, read = 0, save = 0, shape = 0, load = 0;
-        service(&read, &write);
+        uint64_t write = 0, read = 0, eoir = 0, dir = 0, save = 0, shape = 0, load = 0;
+        service(&read, &eoir, &dir);
         moves(&save, &shape, &load);
         uint64_t level = of_input((const void *)vgic_set_level), pulse = of_input((const void *)vgic_pulse);
         uint64_t line = of_input((const void *)vgic_irq_level), record = of_input((const void *)vgic_interrupt);
@@ -150,13 +150,13 @@ int main(void)
         boot(count, count == 1 ? 40 : 1020);
         uint64_t to_distributor = 0;
         used = of_frame((const void *)vgic_read_v2_distributor, (const void *)vgic_write_v2_distributor, 0x1000, &to_distributor);
-        uint64_t all[CALLS] = {used, to_distributor, read, write, level, pulse, line, record, save, shape, load};
+        uint64_t all[CALLS] = {used, to_distributor, read, write, level, pulse, line, record, save, shape, load, eoir, dir};
         for (int i = 0; i < CALLS; i++)
             most[i] = all[i] > most[i] ? all[i] : most[i];
     }
     static const char *const names[CALLS] = {"vgic_read_v2_distributor", "vgic_write_v2_distributor", "vgic_read_v2_cpu_interface",
                                              "vgic_write_v2_cpu_interface", "vgic_set_level", "vgic_pulse", "vgic_irq_level", "vgic_interrupt",
-                                             "vgic_save", "vgic_image_shape", "vgic_load"};
+                                             "vgic_save", "vgic_image_shape", "vgic_load", "EOIR", "DIR"};
     for (int i = 0; i < CALLS; i++)
         printf("%s %d\n", names[i], (int)most[i]);
     return 0;

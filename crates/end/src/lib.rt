@@ -38,12 +38,11 @@ fn served_here(record: InterruptRecord, vcpu: GicVcpuId) -> bool
     record.inflight & owned_by(owner, vcpu)
 }
 
-fn retire(record: InterruptRecord) -> InterruptRecord
+fn retire(mut record: InterruptRecord) -> InterruptRecord
     ensures { λ r. ⌜ r ≡ retire «record» ⌝ }
 {
-    record
-        .deactivate_inflight(record.pending)
-        .set_owner(Owner::Nobody)
+    record = record.deactivate_inflight(record.pending);
+    record.set_owner(Owner::Nobody)
 }
 
 // The number that is retired, if one is.
@@ -54,13 +53,15 @@ fn deactivate_interrupt(words: &mut [u32], shape: Shape, vcpu: GicVcpuId, intid:
     if shape.limit <= intid.0 {
         return IntId::SPURIOUS;
     }
-    let found = record(words, shape, vcpu, intid);
+    let mut found = record(words, shape, vcpu, intid);
     if served_here(found, vcpu) {
-        put_record(words, shape, vcpu, intid, retire(found));
+        found = retire(found);
+        put_record(words, shape, vcpu, intid, found);
         return intid;
     }
     if found.active & !found.inflight {
-        put_record(words, shape, vcpu, intid, found.complete());
+        found = found.complete();
+        put_record(words, shape, vcpu, intid, found);
     }
     IntId::SPURIOUS
 }

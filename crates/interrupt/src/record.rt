@@ -194,7 +194,7 @@ impl InterruptRecord {
         self
     }
 
-    // A field that is an enum is not stored to: the record is written anew.
+    // The compiler's rules store to no field that is an enum: here the record is written anew, in `set_owner` a law of `walks` stores it.
     fn with(self, trigger: TriggerMode, cpu_target_mask: CpuTargetMask, owner: Owner) -> Self
         ensures { λ r. ⌜ r ≡ withTrigger trigger (withMask «cpu_target_mask» (withOwner owner self)) ⌝ }
     {
@@ -229,12 +229,11 @@ impl InterruptRecord {
         self.with(trigger, CpuTargetMask::Mask(mask), owner)
     }
 
-    pub fn set_owner(self, owner: Owner) -> Self
+    pub fn set_owner(mut self, owner: Owner) -> Self
         ensures { λ r. ⌜ r ≡ setOwner self owner ⌝ }
     {
-        let trigger = self.trigger;
-        let cpu_target_mask = self.cpu_target_mask;
-        self.with(trigger, cpu_target_mask, owner)
+        self.owner = owner;
+        self
     }
 
     // `set_level` by value.

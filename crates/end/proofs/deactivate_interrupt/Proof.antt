@@ -72,7 +72,7 @@ returns-2 : tie.Need-returns-2
 returns-2 c =
     let put = c .before .before in
     let test = put .before .before .before in
-    by-tests (test .before) (simp (test .if2 .taken)) (simp (test .if2 .taken) (rw (put .put-record .ensures, put .before .retire .ensures)))
+    by-tests (test .before) (simp (test .if2 .taken)) (simp (test .if2 .taken) (rw (put .put-record .ensures, put .before .before .retire .ensures)))
 
 complete-requires : tie.Need-complete-requires
 complete-requires c κs = search needs
@@ -88,7 +88,7 @@ returns-3 c =
     let put = c .before .before in
     let active = put .before .before .before in
     let test = active .before .before .before in
-    by-tests (test .before) (simp (test .if2 .left)) (simp (test .if2 .left, active .if3 .taken) (rw (put .put-record2 .ensures, put .before .complete .ensures)))
+    by-tests (test .before) (simp (test .if2 .left)) (simp (test .if2 .left, active .if3 .taken) (rw (put .put-record2 .ensures, put .before .before .complete .ensures)))
 
 same-length-3 : tie.Need-same-length-3
 same-length-3 c = search needs
