@@ -26,6 +26,15 @@ pub numbered-past : (n : ℕ) → 16 ≤ n → rangeNumbered n ≡ nowhere
 unfolding rangeNumbered ranges
 numbered-past n h = List·getD-eq-default ranges nowhere h
 
+-- n is none of the numbers below k, as a `match` with an arm for each of them leaves it
+abbrev pub NoneOf : ℕ → ℕ → Type 0
+NoneOf zero n = Unit {0}
+NoneOf (suc k) n = NoneOf k n × (n ≡ k → ⊥)
+
+pub none-below : (k n : ℕ) → NoneOf k n → k ≤ n
+none-below zero n r = omega arith
+none-below (suc k) n r = let i : k ≤ n = none-below k n (r .0) in let no : n ≡ k → ⊥ = r .1 in omega (arith, i, no)
+
 -- a class is the class of its number ..
 pub class-of-number : (c : Class) → classOf (classNumber c) ≡ c
 unfolding classOf rangeNumbered ranges

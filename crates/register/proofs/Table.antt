@@ -23,12 +23,6 @@ from f (x ∷ xs) i t (suc k) d h =
 pub at {ℓ} : {A : Type ℓ} (f : ℕ → A → Bool) (xs : List A) → T (every f 0 xs) → (k : ℕ) (d : A) → k < length xs → T (f k (getD xs k d))
 at f xs t k d h = subst (λ (m : ℕ). T (f m (getD xs k d))) (zero-add k) (from f xs 0 t k d h)
 
--- what stands past the end of a list does not matter before its end
-pub getD-any {ℓ} : {A : Type ℓ} (xs : List A) (n : ℕ) (d e : A) → n < length xs → getD xs n d ≡ getD xs n e
-getD-any [] n d e h = absurd (not-suc-le-zero h)
-getD-any (x ∷ xs) zero d e h = refl
-getD-any (x ∷ xs) (suc n) d e h = getD-any xs n d e (le-of-suc-le-suc h)
-
 -- the values of f at n numbers from i up
 abbrev pub tabulate {ℓ} : {A : Type ℓ} → (ℕ → A) → ℕ → ℕ → List A
 tabulate f i zero = []

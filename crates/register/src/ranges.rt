@@ -197,15 +197,30 @@ impl Class {
     pub fn range(self) -> RegisterRange
         ensures { λ r. ⌜ r ≡ rangeOf self ⌝ }
     {
-        let n = self.number() as usize;
-        if n < 16 {
-            RANGES[n]
-        } else {
-            RegisterRange {
+        // At places that are constants the rows need not stand on the stack.
+        let rows = RANGES;
+        match self.number() {
+            0 => rows[0],
+            1 => rows[1],
+            2 => rows[2],
+            3 => rows[3],
+            4 => rows[4],
+            5 => rows[5],
+            6 => rows[6],
+            7 => rows[7],
+            8 => rows[8],
+            9 => rows[9],
+            10 => rows[10],
+            11 => rows[11],
+            12 => rows[12],
+            13 => rows[13],
+            14 => rows[14],
+            15 => rows[15],
+            _ => RegisterRange {
                 first: 0,
                 length: 0,
                 class: Class::Other,
-            }
+            },
         }
     }
 }

@@ -1,15 +1,8 @@
 -- `Class::of_number` is `classOf`: a number below 16 by its row, and no row from 16 up.
-use mathlib.Core.Path.{_≡_}
-use Prim.Native.Nat.{ℕ, _+_, _≤_}
-use native.Mathlib.Omega.{arith}
 use Rattle.register.specs.Ranges.{ranges, rangeNumbered, classOf}
-use Rattle.register.proofs.Map.{numbered-past}
+use Rattle.register.proofs.Map.{numbered-past, none-below}
 use Rattle.register.proofs.ranges.Class.of_number.Statement.{statement}
 use Rattle.register.proofs.ranges.Class.of_number.Tie as tie
-
--- a number from k up that is none of the next four
-four : (k n : ℕ) → k ≤ n → (n ≡ k → ⊥) → (n ≡ k + 1 → ⊥) → (n ≡ k + 2 → ⊥) → (n ≡ k + 3 → ⊥) → k + 4 ≤ n
-four k n h a b d e = omega arith
 
 returns : tie.Need-returns
 unfolding classOf rangeNumbered ranges
@@ -77,13 +70,7 @@ returns-16 c = simp (c .match .keys16)
 
 returns-17 : tie.Need-returns-17
 unfolding classOf rangeNumbered ranges
-returns-17 c =
-    let r = c .match .rest in
-    let n = c .before .args .number in
-    let from4 : 4 ≤ n = four 0 n (omega arith) (r .0 .0 .0 .0 .0 .0 .0 .0 .0 .0 .0 .0 .0 .0 .0 .1) (r .0 .0 .0 .0 .0 .0 .0 .0 .0 .0 .0 .0 .0 .0 .1) (r .0 .0 .0 .0 .0 .0 .0 .0 .0 .0 .0 .0 .0 .1) (r .0 .0 .0 .0 .0 .0 .0 .0 .0 .0 .0 .0 .1) in
-    let from8 : 8 ≤ n = four 4 n from4 (r .0 .0 .0 .0 .0 .0 .0 .0 .0 .0 .0 .1) (r .0 .0 .0 .0 .0 .0 .0 .0 .0 .0 .1) (r .0 .0 .0 .0 .0 .0 .0 .0 .0 .1) (r .0 .0 .0 .0 .0 .0 .0 .0 .1) in
-    let from12 : 12 ≤ n = four 8 n from8 (r .0 .0 .0 .0 .0 .0 .0 .1) (r .0 .0 .0 .0 .0 .0 .1) (r .0 .0 .0 .0 .0 .1) (r .0 .0 .0 .0 .1) in
-    simp (numbered-past n (four 12 n from12 (r .0 .0 .0 .1) (r .0 .0 .1) (r .0 .1) (r .1)))
+returns-17 c = simp (numbered-past _ (none-below 16 _ (c .match .rest)))
 
 pub of-number-spec : {M : Type 1} → statement M
 of-number-spec =
