@@ -1,6 +1,6 @@
 -- The laws of the Distributor's map: a class and its number name each other, the ranges lie apart and are made of whole words, and they
 -- end with the frame. Assumes nothing.
-use mathlib.Core.Path.{_≡_, refl, ap, _∙_}
+use mathlib.Core.Path.{_≡_, refl, sym, ap, _∙_}
 use mathlib.Core.Bool.{Bool, true, false, cond, _&&_, and-false}
 use mathlib.Core.List.{List, [], _∷_}
 use mathlib.Core.Logic.{_⊎_, inl, inr}
@@ -200,13 +200,14 @@ rows-in-words n h = at inWords ranges tt n nowhere h
 pub range-whole : (o : ℕ) → (rangeAt o ≡ nowhere) ⊎ Whole (rangeAt o) o
 range-whole o = by-row (λ r. (r ≡ nowhere) ⊎ Whole r o) o (λ n h t. inr (whole (rangeNumbered n) n o (rows-in-words n h) t)) (inl refl)
 
--- the class number of each 32-bit place, computed: what the dispatch table has to be
-unfoldable pub classNumbers : List ℕ
-classNumbers = tabulate (λ (place : ℕ). classNumber (classAt (4 * place))) 0 1024
+-- the class numbers of the 32 places of a row, computed: what the dispatch table has to be ..
+unfoldable pub classRow : ℕ → List ℕ
+classRow k = tabulate (λ (place : ℕ). classNumber (classAt (4 * place))) (32 * k) 32
 
-pub class-numbers : (place : ℕ) → place < 1024 → getD classNumbers place 0 ≡ classNumber (classAt (4 * place))
-unfolding classNumbers
-class-numbers place h = getD-tabulate number 0 1024 place 0 h ∙ ap number (zero-add place)
+-- .. and what stands at each entry, where k is the row's number n
+pub class-row : {n : ℕ} (k : ℕ) → n ≡ k → (i : ℕ) → i < 32 → getD (classRow k) i 0 ≡ classNumber (classAt (4 * (32 * n + i)))
+unfolding classRow
+class-row k at i h = getD-tabulate number (32 * k) 32 i 0 h ∙ ap (λ (m : ℕ). number (32 * m + i)) (sym at)
   where
     number : ℕ → ℕ
     number n = classNumber (classAt (4 * n))

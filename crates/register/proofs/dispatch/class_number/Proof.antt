@@ -1,17 +1,22 @@
--- `class_number`: the dispatch table agrees with the ranges at all of its 1,024 entries. The list of the class numbers is computed and found
--- equal to the constant, and one law says what stands at each entry.
+-- `class_number` is the class number at a place: entry place % 32 of row place / 32.
+use mathlib.Core.Path.{ap, _∙_}
+use Prim.Native.Nat.{ℕ, _*_, _%_}
+use native.Mathlib.Omega.{arith}
 use borrow.Author.Needs.{needs}
-use Rattle.register.specs.Ranges.{ranges, rangeIn, rangeAt}
-use Rattle.register.proofs.Map.{classNumbers, class-numbers}
+use Rattle.register.specs.Ranges.{classAt, classNumber}
 use Rattle.register.proofs.dispatch.class_number.Statement.{statement}
 use Rattle.register.proofs.dispatch.class_number.Tie as tie
+
+row-requires : tie.Need-row-requires
+row-requires c κs = search needs
 
 array-read-result : tie.Need-array-read-result
 array-read-result c = search needs
 
 returns : tie.Need-returns
-unfolding classNumbers rangeAt rangeIn ranges
-returns c = class-numbers (c .args .place) (search needs)
+returns c =
+    let place = c .before .args .place in
+    c .row .ensures (place % 32) (omega arith) ∙ ap (λ (p : ℕ). classNumber (classAt (4 * p))) (omega arith)
 
 pub class-number-spec : {M : Type 1} → statement M
-class-number-spec = tie.close (tie.spec array-read-result returns)
+class-number-spec = tie.close (tie.spec row-requires array-read-result returns)
