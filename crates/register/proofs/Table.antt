@@ -1,5 +1,5 @@
 -- A rule of a list, proved at all of its entries by one test that is computed, one entry after the other. Assumes nothing.
-use mathlib.Core.Path.{_≡_, _∙_, refl, ap, subst, sym}
+use mathlib.Core.Path.{_≡_, _∙_, ap, subst, sym}
 use mathlib.Core.Bool.{Bool, true, cond, _&&_}
 use mathlib.Core.List.{List, [], _∷_}
 use Prim.Native.Nat.{ℕ, zero, suc, _+_, _<_}

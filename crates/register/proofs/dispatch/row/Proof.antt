@@ -1,6 +1,5 @@
 -- `row`: the dispatch table agrees with the ranges at all of its 1,024 entries. The class numbers of each row are computed and found equal to the
 -- constant's, and one law says what stands at each entry.
-use mathlib.Core.Path.{_≡_}
 use Prim.Native.Nat.{_<_, _≤_}
 use native.Mathlib.Omega.{arith}
 use borrow.Author.Needs.{needs}
@@ -238,4 +237,15 @@ returns-32 c =
     class-row 31 (omega (arith, low, high))
 
 pub row-spec : {M : Type 1} → statement M
-row-spec = tie.close (tie.spec array-copy-out-result array-copy-out-result-2 array-copy-out-result-3 array-copy-out-result-4 array-copy-out-result-5 array-copy-out-result-6 array-copy-out-result-7 array-copy-out-result-8 array-copy-out-result-9 array-copy-out-result-10 array-copy-out-result-11 array-copy-out-result-12 array-copy-out-result-13 array-copy-out-result-14 array-copy-out-result-15 array-copy-out-result-16 array-copy-out-result-17 array-copy-out-result-18 array-copy-out-result-19 array-copy-out-result-20 array-copy-out-result-21 array-copy-out-result-22 array-copy-out-result-23 array-copy-out-result-24 array-copy-out-result-25 array-copy-out-result-26 array-copy-out-result-27 array-copy-out-result-28 array-copy-out-result-29 array-copy-out-result-30 array-copy-out-result-31 array-copy-out-result-32 returns returns-2 returns-3 returns-4 returns-5 returns-6 returns-7 returns-8 returns-9 returns-10 returns-11 returns-12 returns-13 returns-14 returns-15 returns-16 returns-17 returns-18 returns-19 returns-20 returns-21 returns-22 returns-23 returns-24 returns-25 returns-26 returns-27 returns-28 returns-29 returns-30 returns-31 returns-32)
+row-spec =
+    tie.close
+    (tie.spec
+    array-copy-out-result array-copy-out-result-2 array-copy-out-result-3 array-copy-out-result-4 array-copy-out-result-5
+    array-copy-out-result-6 array-copy-out-result-7 array-copy-out-result-8 array-copy-out-result-9 array-copy-out-result-10
+    array-copy-out-result-11 array-copy-out-result-12 array-copy-out-result-13 array-copy-out-result-14 array-copy-out-result-15
+    array-copy-out-result-16 array-copy-out-result-17 array-copy-out-result-18 array-copy-out-result-19 array-copy-out-result-20
+    array-copy-out-result-21 array-copy-out-result-22 array-copy-out-result-23 array-copy-out-result-24 array-copy-out-result-25
+    array-copy-out-result-26 array-copy-out-result-27 array-copy-out-result-28 array-copy-out-result-29 array-copy-out-result-30
+    array-copy-out-result-31 array-copy-out-result-32 returns returns-2 returns-3 returns-4 returns-5 returns-6 returns-7 returns-8
+    returns-9 returns-10 returns-11 returns-12 returns-13 returns-14 returns-15 returns-16 returns-17 returns-18 returns-19 returns-20
+    returns-21 returns-22 returns-23 returns-24 returns-25 returns-26 returns-27 returns-28 returns-29 returns-30 returns-31 returns-32)

@@ -131,4 +131,11 @@ unfolding rangeOf
 returns-17 c = simp (← c .before .number .ensures, numbered-past _ (none-below 16 _ (c .match .rest)))
 
 pub range-spec : {M : Type 1} → statement M
-range-spec = tie.close (tie.spec number-requires array-copy-out-result array-copy-out-result-2 array-copy-out-result-3 array-copy-out-result-4 array-copy-out-result-5 array-copy-out-result-6 array-copy-out-result-7 array-copy-out-result-8 array-copy-out-result-9 array-copy-out-result-10 array-copy-out-result-11 array-copy-out-result-12 array-copy-out-result-13 array-copy-out-result-14 array-copy-out-result-15 array-copy-out-result-16 returns returns-2 returns-3 returns-4 returns-5 returns-6 returns-7 returns-8 returns-9 returns-10 returns-11 returns-12 returns-13 returns-14 returns-15 returns-16 returns-17)
+range-spec =
+    tie.close
+    (tie.spec
+    number-requires array-copy-out-result array-copy-out-result-2 array-copy-out-result-3 array-copy-out-result-4 array-copy-out-result-5
+    array-copy-out-result-6 array-copy-out-result-7 array-copy-out-result-8 array-copy-out-result-9 array-copy-out-result-10
+    array-copy-out-result-11 array-copy-out-result-12 array-copy-out-result-13 array-copy-out-result-14 array-copy-out-result-15
+    array-copy-out-result-16 returns returns-2 returns-3 returns-4 returns-5 returns-6 returns-7 returns-8 returns-9 returns-10 returns-11
+    returns-12 returns-13 returns-14 returns-15 returns-16 returns-17)
