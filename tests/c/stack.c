@@ -140,8 +140,9 @@ int main(void)
     printf("vgic_state_words %d\nvgic_image_bytes %d\nvgic_setup %d\n", (int)of_words, (int)of_bytes, (int)of_setup);
     for (uint64_t count = 1; count <= 8; count += 7) {
         boot(count, count == 1 ? 40 : 1020);
-        uint64_t write = 0, read = 0, eoir = 0, dir = 0, save = 0, shape = 0, load = 0;
+        uint64_t write, read = 0, eoir = 0, dir = 0, save = 0, shape = 0, load = 0;
         service(&read, &eoir, &dir);
+        write = eoir > dir ? eoir : dir;
         moves(&save, &shape, &load);
         uint64_t level = of_input((const void *)vgic_set_level), pulse = of_input((const void *)vgic_pulse);
         uint64_t line = of_input((const void *)vgic_irq_level), record = of_input((const void *)vgic_interrupt);

@@ -8,8 +8,8 @@ use Rattle.register.proofs.ranges.Class.range.Statement.{statement}
 use Rattle.register.proofs.ranges.Class.range.Tie as tie
 
 -- where a number n is both m and k, the row at k is the row at m
-row : {n m : ℕ} → n ≡ m → (k : ℕ) → n ≡ k → rangeNumbered k ≡ rangeNumbered m
-row e k at = ap rangeNumbered (sym at ∙ e)
+same-row : {n m : ℕ} → n ≡ m → (k : ℕ) → n ≡ k → rangeNumbered k ≡ rangeNumbered m
+same-row e k at = ap rangeNumbered (sym at ∙ e)
 
 number-requires : tie.Need-number-requires
 number-requires c κs = search needs
@@ -64,67 +64,67 @@ array-copy-out-result-16 c = search needs
 
 returns : tie.Need-returns
 unfolding rangeOf rangeNumbered ranges
-returns c = row (c .before .before .number .ensures) 0 (c .before .match .keys1)
+returns c = same-row (c .before .before .number .ensures) 0 (c .before .match .keys1)
 
 returns-2 : tie.Need-returns-2
 unfolding rangeOf rangeNumbered ranges
-returns-2 c = row (c .before .before .number .ensures) 1 (c .before .match .keys2)
+returns-2 c = same-row (c .before .before .number .ensures) 1 (c .before .match .keys2)
 
 returns-3 : tie.Need-returns-3
 unfolding rangeOf rangeNumbered ranges
-returns-3 c = row (c .before .before .number .ensures) 2 (c .before .match .keys3)
+returns-3 c = same-row (c .before .before .number .ensures) 2 (c .before .match .keys3)
 
 returns-4 : tie.Need-returns-4
 unfolding rangeOf rangeNumbered ranges
-returns-4 c = row (c .before .before .number .ensures) 3 (c .before .match .keys4)
+returns-4 c = same-row (c .before .before .number .ensures) 3 (c .before .match .keys4)
 
 returns-5 : tie.Need-returns-5
 unfolding rangeOf rangeNumbered ranges
-returns-5 c = row (c .before .before .number .ensures) 4 (c .before .match .keys5)
+returns-5 c = same-row (c .before .before .number .ensures) 4 (c .before .match .keys5)
 
 returns-6 : tie.Need-returns-6
 unfolding rangeOf rangeNumbered ranges
-returns-6 c = row (c .before .before .number .ensures) 5 (c .before .match .keys6)
+returns-6 c = same-row (c .before .before .number .ensures) 5 (c .before .match .keys6)
 
 returns-7 : tie.Need-returns-7
 unfolding rangeOf rangeNumbered ranges
-returns-7 c = row (c .before .before .number .ensures) 6 (c .before .match .keys7)
+returns-7 c = same-row (c .before .before .number .ensures) 6 (c .before .match .keys7)
 
 returns-8 : tie.Need-returns-8
 unfolding rangeOf rangeNumbered ranges
-returns-8 c = row (c .before .before .number .ensures) 7 (c .before .match .keys8)
+returns-8 c = same-row (c .before .before .number .ensures) 7 (c .before .match .keys8)
 
 returns-9 : tie.Need-returns-9
 unfolding rangeOf rangeNumbered ranges
-returns-9 c = row (c .before .before .number .ensures) 8 (c .before .match .keys9)
+returns-9 c = same-row (c .before .before .number .ensures) 8 (c .before .match .keys9)
 
 returns-10 : tie.Need-returns-10
 unfolding rangeOf rangeNumbered ranges
-returns-10 c = row (c .before .before .number .ensures) 9 (c .before .match .keys10)
+returns-10 c = same-row (c .before .before .number .ensures) 9 (c .before .match .keys10)
 
 returns-11 : tie.Need-returns-11
 unfolding rangeOf rangeNumbered ranges
-returns-11 c = row (c .before .before .number .ensures) 10 (c .before .match .keys11)
+returns-11 c = same-row (c .before .before .number .ensures) 10 (c .before .match .keys11)
 
 returns-12 : tie.Need-returns-12
 unfolding rangeOf rangeNumbered ranges
-returns-12 c = row (c .before .before .number .ensures) 11 (c .before .match .keys12)
+returns-12 c = same-row (c .before .before .number .ensures) 11 (c .before .match .keys12)
 
 returns-13 : tie.Need-returns-13
 unfolding rangeOf rangeNumbered ranges
-returns-13 c = row (c .before .before .number .ensures) 12 (c .before .match .keys13)
+returns-13 c = same-row (c .before .before .number .ensures) 12 (c .before .match .keys13)
 
 returns-14 : tie.Need-returns-14
 unfolding rangeOf rangeNumbered ranges
-returns-14 c = row (c .before .before .number .ensures) 13 (c .before .match .keys14)
+returns-14 c = same-row (c .before .before .number .ensures) 13 (c .before .match .keys14)
 
 returns-15 : tie.Need-returns-15
 unfolding rangeOf rangeNumbered ranges
-returns-15 c = row (c .before .before .number .ensures) 14 (c .before .match .keys15)
+returns-15 c = same-row (c .before .before .number .ensures) 14 (c .before .match .keys15)
 
 returns-16 : tie.Need-returns-16
 unfolding rangeOf rangeNumbered ranges
-returns-16 c = row (c .before .before .number .ensures) 15 (c .before .match .keys16)
+returns-16 c = same-row (c .before .before .number .ensures) 15 (c .before .match .keys16)
 
 returns-17 : tie.Need-returns-17
 unfolding rangeOf
