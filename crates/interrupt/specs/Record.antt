@@ -1,7 +1,7 @@
 -- One interrupt's record and its transitions. Document 01, "Port order" 1: "All its transitions exactly as the Rust, less routes", so each
--- definition stands beside the function of interrupt.rs that its comment names, line by line; what the states mean is IHI 0048's "Interrupt
--- handling state machine", and the registers that its comment names are IHI 0048's that reach it. A chain of `with..` (With.antt) is read from
--- the inside: it says field by field what is new, and all else stays.
+-- definition stands beside the function of interrupt.rs that its comment names, line by line, but for `set_pending`, which departs from it; what the
+-- states mean is IHI 0048's "Interrupt handling state machine", and the registers that its comment names are IHI 0048's that reach it. A chain of
+-- `with..` (With.antt) is read from the inside: it says field by field what is new, and all else stays.
 -- Left out on purpose: the interrupt's number, which is the record's place in the lent state, and the affinity route.
 use mathlib.Core.Bool.{Bool, true, false, not, cond, _&&_, _||_}
 use Prim.Native.Nat.{ℕ}
@@ -41,9 +41,14 @@ startingRecord n = newRecord n (startingTrigger n)
 unfoldable pub setEnabled : InterruptRecord → Bool → InterruptRecord
 setEnabled r e = withPending (cond (e && r .«line_asserted») true (r .pending)) (withEnabled e r)
 
--- `set_pending` (GICD_ISPENDRn, GICD_ICPENDRn, GICD_SGIR): clearing takes the redelivery note with it
+-- a level interrupt with its line asserted
+unfoldable pub held : InterruptRecord → Bool
+held r = isLevel (r .trigger) && r .«line_asserted»
+
+-- `set_pending` (GICD_ISPENDRn, GICD_ICPENDRn, GICD_SGIR): clearing takes the redelivery note with it. Document 02, Four, departs from the Rust:
+-- "Clearing pending on a level interrupt with its line asserted must leave the pending bit as it stands; the redelivery note is still cleared."
 unfoldable pub setPending : InterruptRecord → Bool → InterruptRecord
-setPending r p = withRedelivery (cond (not p) false (r .«redelivery_pending»)) (withPending p r)
+setPending r p = withRedelivery (cond (not p) false (r .«redelivery_pending»)) (withPending (cond (not p && held r) (r .pending) p) r)
 
 -- `set_active` (GICD_ISACTIVERn, GICD_ICACTIVERn)
 unfoldable pub setActive : InterruptRecord → Bool → InterruptRecord
@@ -91,10 +96,6 @@ synchronizeInflight r s = record {
 -- `cancel_inflight` (GICD_ICACTIVERn): what was noted becomes pending
 unfoldable pub cancelInflight : InterruptRecord → InterruptRecord
 cancelInflight r = withRedelivery false (withInflight false (noteMerged r))
-
--- a level interrupt whose line is still asserted
-unfoldable pub held : InterruptRecord → Bool
-held r = isLevel (r .trigger) && r .«line_asserted»
 
 -- `finish_inflight`: pending again if that was noted, or if its line is held
 unfoldable pub finishInflight : InterruptRecord → InterruptRecord

@@ -79,8 +79,11 @@ impl InterruptRecord {
     pub fn set_pending(mut self, pending: bool) -> Self
         ensures { λ r. ⌜ r ≡ setPending self pending ⌝ }
     {
-        self.pending = pending;
-        if !pending {
+        if pending {
+            self.pending = true;
+        } else {
+            // Where interrupt.rs would silence a held line, request Four leaves the bit as it stands.
+            self.pending &= self.held();
             self.redelivery_pending = false;
         }
         self
@@ -163,7 +166,7 @@ impl InterruptRecord {
         self
     }
 
-    // A level interrupt whose line is still asserted.
+    // A level interrupt with its line asserted.
     fn held(self) -> bool
         ensures { λ r. ⌜ r ≡ held self ⌝ }
     {

@@ -70,7 +70,7 @@ module _ (shape : Shape) (s : List ℕ) (h : validated s ≡ lent.Sound shape) (
       go true = refl
       go false = refl
 
-  level-there : v < shape .count → toldLevel v s ≡ bitOf (lineLevel shape v s)
+  pub level-there : v < shape .count → toldLevel v s ≡ bitOf (lineLevel shape v s)
   level-there exists = level-by false (found true shape v (λ e. exists))
 
   level-past : shape .count ≤ v → toldLevel v s ≡ 0

@@ -9,17 +9,21 @@ use Rattle.interrupt.specs.declared.record.InterruptRecord.{InterruptRecord}
 use Rattle.interrupt.specs.Record as record-of
 use Rattle.state.specs.declared.layout.Shape.{Shape}
 use Rattle.state.specs.Loop.{everyBelow}
-use Rattle.state.specs.Words.{RecordThere, recordAt, sourcesAt}
+use Rattle.state.specs.Words.{RecordThere, recordAt, sourcesAt, changed}
 use Rattle.state.proofs.Tests.{every-at}
 use Rattle.answer.specs.Answer.{Outcome}
+use Rattle.input.specs.declared.Signal.{Signal}
+use Rattle.input.specs.declared.Signal.the-variants.{Level, Edge}
+use Rattle.input.specs.Input.{signalled, deviceInput}
 use Rattle.lawful.specs.Lawful.{Controls}
 use Rattle.moves.specs.Moves as moves
 use Rattle.moves.proofs.Controllers.{changed-record}
 use Rattle.history.specs.History.{Pulse, called, sgirWrite}
 use Rattle.waiting.specs.Waiting.{bit, rung, pends}
+use Rattle.waiting.proofs.Accepted.{input-call}
 use Rattle.waiting.proofs.BitLaws.{bit-or}
 use Rattle.stories.specs.Stories.{Rings}
-use Rattle.stories.proofs.Calls.{ring-call, pulse-call}
+use Rattle.stories.proofs.Calls.{ring-call}
 use Rattle.stories.proofs.Events.{rung-sources}
 
 own-bit : (u : ℕ) → u < 8 → bit u (2 ^ u) ≡ true
@@ -37,10 +41,13 @@ a-ring-is-set shape t n u value s h exists sender sgi rings =
     few = omega (arith, sender, h .lawful .in-range .state .limits .few-vcpus)
 
 module _ (shape : Shape) (v n : ℕ) (s : List ℕ) (h : Controls shape s) (there : RecordThere shape v n) (no-sgi : 16 ≤ n) where
-  pub pulsed-record : recordAt shape v n (called (Pulse v n) s .state) ≡ record-of.pulse (recordAt shape v n s)
-  pulsed-record =
-      ap (λ (o : Outcome). recordAt shape v n (o .state)) (pulse-call shape s h v n there no-sgi) ∙ changed-record shape s (h .lawful) v n moves.Pulse (record { there = there; fits = no-sgi })
+  pub signalled-record : (signal : Signal) → recordAt shape v n (deviceInput signal v n s .state) ≡ signalled signal (recordAt shape v n s)
+  signalled-record signal = ap (λ (o : Outcome). recordAt shape v n (o .state)) (input-call shape s h v signal n there no-sgi) ∙ changes signal
+    where
+      changes : (d : Signal) → recordAt shape v n (changed shape v n (signalled d) s) ≡ signalled d (recordAt shape v n s)
+      changes (Level asserted) = changed-record shape s (h .lawful) v n (moves.SetLevel asserted) (record { there = there; fits = no-sgi })
+      changes Edge = changed-record shape s (h .lawful) v n moves.Pulse (record { there = there; fits = no-sgi })
 
   pub a-pulse-is-pending : pends shape v n (called (Pulse v n) s .state) ≡ true
   unfolding record-of.pulse
-  a-pulse-is-pending = ap (λ (r : InterruptRecord). r .pending) pulsed-record
+  a-pulse-is-pending = ap (λ (r : InterruptRecord). r .pending) (signalled-record Edge)

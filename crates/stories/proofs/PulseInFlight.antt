@@ -1,31 +1,29 @@
 -- A pulse that arrives while its interrupt is in flight is given again after it is retired. Assumes nothing.
 use mathlib.Core.Path.{_≡_, refl, sym, ap, _∙_}
 use mathlib.Core.Bool.{true}
-use mathlib.Core.List.{List}
-use Prim.Native.Nat.{ℕ, _+_, _*_, _<_}
+use Prim.Native.Nat.{ℕ, _<_}
 use native.Mathlib.Omega.{arith}
-use borrow.Author.Tests.{le-ltb}
 use Rattle.interrupt.specs.declared.record.InterruptRecord.{InterruptRecord}
 use Rattle.interrupt.specs.Record as record-of
-use Rattle.word.specs.Word.{recordOf}
 use Rattle.state.specs.declared.layout.Shape.{Shape}
-use Rattle.state.specs.Layout.{Slot}
-use Rattle.state.specs.Words.{wordAt, recordAt, changed}
+use Rattle.state.specs.Words.{recordAt, changed}
 use Rattle.select.specs.Select.{candidateFor}
-use Rattle.acknowledge.specs.Acknowledge.{sourceOf, given}
+use Rattle.acknowledge.specs.Acknowledge.{given}
+use Rattle.end.specs.End.{retire}
 use Rattle.answer.specs.Answer.{Outcome, gave, went}
+use Rattle.input.specs.declared.Signal.the-variants.{Edge}
 use Rattle.lawful.specs.Lawful.{Controls}
 use Rattle.history.specs.History.{WriteCpuInterface, Pulse, run}
 use Rattle.history.proofs.Always.{every-other-call}
-use Rattle.waiting.specs.Waiting.{meets, pends}
-use Rattle.waiting.proofs.PendingMoves.{met-slot}
+use Rattle.waiting.specs.Waiting.{pends}
 use Rattle.waiting.proofs.Pends.{pending-stays, a-pulse-waits, pulse-controls}
+use Rattle.waiting.proofs.RecordMoves.{met-record}
 use Rattle.stories.specs.Stories as story
 use Rattle.stories.specs.Stories.{PulseInFlight, InService, GivenAgain}
-use Rattle.stories.proofs.Begins.{pulsed-record, a-pulse-is-pending}
+use Rattle.stories.proofs.Begins.{signalled-record, a-pulse-is-pending}
 use Rattle.stories.proofs.Calls.{pulse-call}
-use Rattle.stories.proofs.Retiring.{Idle, retiring-idle}
-use Rattle.stories.proofs.Turns.{given-call}
+use Rattle.stories.proofs.Retiring.{retiring-record}
+use Rattle.stories.proofs.Turns.{number-given}
 
 module _ (h : PulseInFlight) (z : InService h) where
   abbrev shape : Shape
@@ -36,9 +34,6 @@ module _ (h : PulseInFlight) (z : InService h) where
 
   abbrev n : ℕ
   n = h .interrupt
-
-  met : (u : ℕ) → meets v n u ≡ true → (s : List ℕ) → recordAt shape u n s ≡ recordAt shape v n s
-  met u e s = ap (λ (t : Slot). recordOf (wordAt shape t s)) (sym (met-slot v n u e))
 
   numbered : n < 1020
   numbered = omega (arith, z .there .numbered, z .controls .lawful .in-range .state .limits .few-numbers)
@@ -55,7 +50,7 @@ module _ (h : PulseInFlight) (z : InService h) where
 
   noted₁ : recordAt shape v n (story.pulsed h .state) .«redelivery_pending» ≡ true
   unfolding record-of.pulse
-  noted₁ = ap (λ (r : InterruptRecord). r .«redelivery_pending») (pulsed-record shape v n (h .words) (z .controls) (z .there) (z .no-sgi)) ∙ simp (z .in-flight)
+  noted₁ = ap (λ (r : InterruptRecord). r .«redelivery_pending») (signalled-record shape v n (h .words) (z .controls) (z .there) (z .no-sgi) Edge) ∙ simp (z .in-flight)
 
   -- until it is retired
   controls₂ : Controls shape (run (h .meanwhile₁) (story.pulsed h .state))
@@ -72,8 +67,8 @@ module _ (h : PulseInFlight) (z : InService h) where
   pended₃ =
       pending-stays shape v n (z .there) (z .no-sgi) (WriteCpuInterface (h .retirer) (h .offset) (h .width) (h .writes)) (run (h .meanwhile₁) (story.pulsed h .state)) controls₂ pended₂ refl
 
-  idle₃ : Idle shape (h .retirer) n (story.retires h .state)
-  idle₃ = retiring-idle shape (run (h .meanwhile₁) (story.pulsed h .state)) controls₂ (h .retirer) n numbered (h .offset) (h .width) (h .writes) (z .retired)
+  retired₃ : recordAt shape (h .retirer) n (story.retires h .state) ≡ retire (recordAt shape (h .retirer) n (run (h .meanwhile₁) (story.pulsed h .state)))
+  retired₃ = retiring-record shape (run (h .meanwhile₁) (story.pulsed h .state)) controls₂ (h .retirer) n numbered (h .offset) (h .width) (h .writes) (z .retired)
 
   -- its turn
   controls₄ : Controls shape (story.turn h)
@@ -81,23 +76,20 @@ module _ (h : PulseInFlight) (z : InService h) where
 
   pended₄ : recordAt shape (h .reader) n (story.turn h) .pending ≡ true
   pended₄ =
-      ap (λ (r : InterruptRecord). r .pending) (met (h .reader) (z .its-reader) (story.turn h))
+      ap (λ (r : InterruptRecord). r .pending) (met-record v n shape (h .reader) (z .its-reader) (story.turn h))
       ∙ a-pulse-waits shape v n (z .there) (z .no-sgi) (h .meanwhile₂) (story.retires h .state) controls₃ pended₃ (z .untaken₂)
 
-  no-source : sourceOf shape (h .reader) n (story.turn h) ≡ 0
-  unfolding sourceOf
-  no-source = simp (le-ltb n 16 (z .no-sgi))
-
-  gives : story.readAgain h ≡ gave (n + 1024 * sourceOf shape (h .reader) n (story.turn h)) (given shape (h .reader) (candidateFor shape (h .reader) (story.turn h) n) (story.turn h))
-  gives = given-call shape (h .reader) n (story.turn h) controls₄ (z .reader-exists) (z .there .numbered) (z .takes) pended₄ (z .none-ahead)
+  gives : story.readAgain h ≡ gave n (given shape (h .reader) (candidateFor shape (h .reader) (story.turn h) n) (story.turn h))
+  gives = number-given shape (h .reader) n (story.turn h) controls₄ (z .reader-exists) (z .there .numbered) (z .takes) pended₄ (z .no-sgi) (z .none-ahead)
 
   pub given-again : GivenAgain h
+  unfolding retire record-of.deactivateInflight record-of.setOwner
   given-again = record {
     pulse-accepted = ap (λ (o : Outcome). o .refusal) pulse-is;
     noted = noted₁;
     waits = pended₃;
-    idle = ap (λ (r : InterruptRecord). r .active) (sym (met (h .retirer) (z .its-retirer) (story.retires h .state))) ∙ idle₃ .inactive;
-    not-in-flight = ap (λ (r : InterruptRecord). r .inflight) (sym (met (h .retirer) (z .its-retirer) (story.retires h .state))) ∙ idle₃ .landed;
+    idle = ap (λ (r : InterruptRecord). r .active) (sym (met-record v n shape (h .retirer) (z .its-retirer) (story.retires h .state)) ∙ retired₃);
+    not-in-flight = ap (λ (r : InterruptRecord). r .inflight) (sym (met-record v n shape (h .retirer) (z .its-retirer) (story.retires h .state)) ∙ retired₃);
     read-accepted = ap (λ (o : Outcome). o .refusal) gives;
-    given-again = ap (λ (o : Outcome). o .value) gives ∙ rw no-source (omega arith);
+    given-again = ap (λ (o : Outcome). o .value) gives;
   }

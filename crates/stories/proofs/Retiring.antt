@@ -1,13 +1,11 @@
--- A write that retires a number leaves its record, as the writer meets it, neither active nor in flight. Assumes nothing.
-use mathlib.Core.Path.{_≡_, refl, sym, ap, subst, _∙_}
+-- A write that retires a number retires its record, as the writer meets it. Assumes nothing.
+use mathlib.Core.Path.{_≡_, refl, sym, subst, _∙_}
 use mathlib.Core.Bool.{Bool, true, false, cond, _&&_}
 use mathlib.Core.List.{List}
 use Prim.Native.Nat.{ℕ, _<_}
 use native.Mathlib.Omega.{arith}
 use lib.Dec.{ltb}
 use borrow.Author.Tests.{ltb-true}
-use Rattle.interrupt.specs.declared.record.InterruptRecord.{InterruptRecord}
-use Rattle.interrupt.specs.Record.{deactivateInflight, setOwner}
 use Rattle.register.specs.declared.frame.AccessWidth.{AccessWidth}
 use Rattle.register.specs.declared.frame.Refusal.{Refusal}
 use Rattle.state.specs.declared.layout.Shape.{Shape}
@@ -15,7 +13,6 @@ use Rattle.state.specs.Words.{recordAt}
 use Rattle.state.proofs.Tests.{left-true, right-true}
 use Rattle.service.specs.Service.{stackAt, isNewest}
 use Rattle.end.specs.End.{servedHere, eoiMode, retire, deactivated, retired, ended, endRetired}
-use Rattle.delivery.specs.Delivery.{deactivate}
 use Rattle.delivery.proofs.Deactivation.{deactivated-record}
 use Rattle.delivery.proofs.Ended.{ended-record, ended-retired}
 use Rattle.delivery.proofs.Registers.{each-write}
@@ -26,23 +23,6 @@ use Rattle.moves.proofs.Slots.{served}
 use Rattle.moves.proofs.Sounds.{lawful-sound}
 use Rattle.history.specs.History.{WriteCpuInterface, Looks, ReadsRegister, WritesRegister, WritesPlace, Signals, Deed, Starts, Acts, called}
 use Rattle.history.proofs.Each.{valid, each-call}
-
-pub record Idle (shape : Shape) (v n : ℕ) (s : List ℕ) : Type 0 where
-  pub inactive : recordAt shape v n s .active ≡ false
-  pub landed : recordAt shape v n s .inflight ≡ false
-
--- what is retired was in flight and served here
-module _ (v : ℕ) (r : InterruptRecord) (e : servedHere v r ≡ true) where
-  retires : deactivate v r ≡ retire r
-  retires = simp e
-
-  idle-active : deactivate v r .active ≡ false
-  unfolding retire deactivateInflight setOwner
-  idle-active = ap (λ (q : InterruptRecord). q .active) retires
-
-  idle-landed : deactivate v r .inflight ≡ false
-  unfolding retire deactivateInflight setOwner
-  idle-landed = ap (λ (q : InterruptRecord). q .inflight) retires
 
 module _ (shape : Shape) (s : List ℕ) (h : Controls shape s) (v n : ℕ) (numbered : n < 1020) where
   -- the number that Deactivate retires is its own
@@ -55,36 +35,31 @@ module _ (shape : Shape) (s : List ℕ) (h : Controls shape s) (v n : ℕ) (numb
       go false e q = absurd (omega (arith, q, numbered))
 
   module _ (exists : v < shape .count) where
-    deactivated-idle : (k : ℕ) → retired shape v k s ≡ n → Idle shape v n (deactivated shape v k s)
-    deactivated-idle k p =
+    abbrev Retired : List ℕ → Type 0
+    Retired r = recordAt shape v n r ≡ retire (recordAt shape v n s)
+
+    deactivated-retires : (k : ℕ) → retired shape v k s ≡ n → Retired (deactivated shape v k s)
+    deactivated-retires k p =
         let is = served-here k p in
         let below = ltb-true n (shape .limit) (left-true (ltb n (shape .limit)) (servedHere v (recordAt shape v n s)) (is .1)) in
-        let here = right-true (ltb n (shape .limit)) (servedHere v (recordAt shape v n s)) (is .1) in
-        let after = deactivated-record shape v n s (h .lawful .in-range .state) exists below in
-        rw (is .0) (record {
-          inactive = ap (λ (q : InterruptRecord). q .active) after ∙ idle-active v (recordAt shape v n s) here;
-          landed = ap (λ (q : InterruptRecord). q .inflight) after ∙ idle-landed v (recordAt shape v n s) here;
-        })
+        rw (is .0)
+        (deactivated-record shape v n s (h .lawful .in-range .state) exists below ∙ simp (right-true (ltb n (shape .limit)) (servedHere v (recordAt shape v n s)) (is .1)))
 
     -- an end that retires popped it, with EOI mode off
-    ended-idle : (k : ℕ) → endRetired shape v k s ≡ n → Idle shape v n (ended shape v k s)
+    ended-retires : (k : ℕ) → endRetired shape v k s ≡ n → Retired (ended shape v k s)
     unfolding endRetired
-    ended-idle k p = newest (isNewest k (stackAt shape v s)) refl
+    ended-retires k p = newest (isNewest k (stackAt shape v s)) refl
       where
-        off : isNewest k (stackAt shape v s) ≡ true → (b : Bool) → eoiMode shape v s ≡ b → Idle shape v n (ended shape v k s)
+        off : isNewest k (stackAt shape v s) ≡ true → (b : Bool) → eoiMode shape v s ≡ b → Retired (ended shape v k s)
         off top true e = absurd (omega (arith, numbered, simp (top, e) at p))
         off top false e =
             let is = served-here k (sym (ended-retired shape v k s (served shape s (lawful-sound (h .lawful)) v exists) top e) ∙ p) in
             let below = ltb-true n (shape .limit) (left-true (ltb n (shape .limit)) (servedHere v (recordAt shape v n s)) (is .1)) in
-            let here = right-true (ltb n (shape .limit)) (servedHere v (recordAt shape v n s)) (is .1) in
-            let after : recordAt shape v n (ended shape v n s) ≡ deactivate v (recordAt shape v n s) =
-            ended-record shape v n s (served shape s (lawful-sound (h .lawful)) v exists) (subst (λ (i : ℕ). isNewest i (stackAt shape v s) ≡ true) (is .0) top) e below in
-            rw (is .0) (record {
-              inactive = ap (λ (q : InterruptRecord). q .active) after ∙ idle-active v (recordAt shape v n s) here;
-              landed = ap (λ (q : InterruptRecord). q .inflight) after ∙ idle-landed v (recordAt shape v n s) here;
-            })
+            rw (is .0)
+            (ended-record shape v n s (served shape s (lawful-sound (h .lawful)) v exists) (subst (λ (i : ℕ). isNewest i (stackAt shape v s) ≡ true) (is .0) top) e below
+            ∙ simp (right-true (ltb n (shape .limit)) (servedHere v (recordAt shape v n s)) (is .1)))
 
-        newest : (b : Bool) → isNewest k (stackAt shape v s) ≡ b → Idle shape v n (ended shape v k s)
+        newest : (b : Bool) → isNewest k (stackAt shape v s) ≡ b → Retired (ended shape v k s)
         newest true e = off e (eoiMode shape v s) refl
         newest false e = absurd (omega (arith, numbered, simp e at p))
 
@@ -93,7 +68,7 @@ module _ (shape : Shape) (s : List ℕ) (h : Controls shape s) (v n : ℕ) (numb
   Retires (Starts count limit) o = Unit
   Retires (Acts (Looks by)) o = Unit
   Retires (Acts (ReadsRegister u a)) o = Unit
-  Retires (Acts (WritesRegister u a value)) o = u ≡ v → o .retired ≡ n → Idle shape v n (o .state)
+  Retires (Acts (WritesRegister u a value)) o = u ≡ v → o .retired ≡ n → recordAt shape v n (o .state) ≡ retire (recordAt shape v n s)
   Retires (Acts (WritesPlace u a width value)) o = Unit
   Retires (Acts (Signals u m signal)) o = Unit
 
@@ -105,21 +80,21 @@ module _ (shape : Shape) (s : List ℕ) (h : Controls shape s) (v n : ℕ) (numb
   refused-retires (Acts (WritesPlace u a width value)) r = tt
   refused-retires (Acts (Signals u m signal)) r = tt
 
-  pub retiring-idle : (offset : ℕ) (width : AccessWidth) (value : ℕ) → called (WriteCpuInterface v offset width value) s .retired ≡ n
-      → Idle shape v n (called (WriteCpuInterface v offset width value) s .state)
-  retiring-idle offset width value =
+  pub retiring-record : (offset : ℕ) (width : AccessWidth) (value : ℕ) → called (WriteCpuInterface v offset width value) s .retired ≡ n
+      → recordAt shape v n (called (WriteCpuInterface v offset width value) s .state) ≡ retire (recordAt shape v n s)
+  retiring-record offset width value =
       each-call shape s (valid shape s h) (λ c. Retires)
       (λ c d r may bar. refused-retires d r)
       (λ c by x. tt)
       (λ c u register x no. tt)
       (λ c u register is looked full. tt)
       (λ c u register x looked p.
-      subst (λ (k : ℕ). writeRetired shape k register x s ≡ n → Idle shape v n (writeRegister shape k register x s)) (sym p)
-      (each-write shape v s x (λ looksUp number r. (looksUp ≡ true → v < shape .count) → number ≡ n → Idle shape v n r)
+      subst (λ (k : ℕ). writeRetired shape k register x s ≡ n → recordAt shape v n (writeRegister shape k register x s) ≡ retire (recordAt shape v n s)) (sym p)
+      (each-write shape v s x (λ looksUp number r. (looksUp ≡ true → v < shape .count) → number ≡ n → recordAt shape v n r ≡ retire (recordAt shape v n s))
       (λ looksUp q e. absurd (omega (arith, e, numbered)))
       (λ k away q e. absurd (omega (arith, e, numbered)))
-      (λ k q e. ended-idle (q refl) k e)
-      (λ k q e. deactivated-idle (q refl) k e)
+      (λ k q e. ended-retires (q refl) k e)
+      (λ k q e. deactivated-retires (q refl) k e)
       register (subst (λ (k : ℕ). writeRegisterLooksUp register x ≡ true → k < shape .count) p looked)))
       (λ c u place w x at. tt)
       (λ c u m signal there past. tt)

@@ -2,11 +2,11 @@
 use mathlib.Core.Path.{_≡_, refl, sym, ap, _∙_}
 use mathlib.Core.Bool.{Bool, true, false, _&&_, _||_, true≢false, false≢true}
 use mathlib.Core.List.{List}
-use Prim.Native.Nat.{ℕ, _+_, _*_, _/_, _%_, _^_, _<_}
-use native.Mathlib.Nat.{one-mul}
+use Prim.Native.Nat.{ℕ, _+_, _*_, _/_, _%_, _^_, _≤_, _<_}
+use native.Mathlib.Nat.{one-mul, add-zero}
 use native.Mathlib.Omega.{arith}
 use lib.Dec.{eqb, ltb}
-use borrow.Author.Tests.{lt-ltb, ltb-false, eq-eqb}
+use borrow.Author.Tests.{lt-ltb, le-ltb, ltb-false, eq-eqb}
 use Rattle.word.specs.Fields.{gathered}
 use Rattle.word.specs.Word.{bitOf}
 use Rattle.word.proofs.Gathered.{gathered-field}
@@ -108,6 +108,11 @@ module _ (shape : Shape) (v n : ℕ) (s : List ℕ) (h : Controls shape s) (exis
 
   pub given-call : NoneAhead shape v n s → called (iarRead v) s ≡ gave (n + 1024 * sourceOf shape v n s) (given shape v (candidateFor shape v s n) s)
   given-call = candidate-call shape v n s h exists numbered (takes .on) is-candidate (takes .preempts)
+
+  -- a PPI or SPI by its number
+  pub number-given : 16 ≤ n → NoneAhead shape v n s → called (iarRead v) s ≡ gave n (given shape v (candidateFor shape v s n) s)
+  unfolding sourceOf
+  number-given past none = simp (le-ltb n 16 past, add-zero) at (given-call none)
 
 -- an active interrupt is not handed out
 pub active-waits : (shape : Shape) (v n : ℕ) (s : List ℕ) → Controls shape s → v < shape .count → n < 1020 → recordAt shape v n s .active ≡ true

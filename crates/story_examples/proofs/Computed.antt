@@ -7,6 +7,7 @@ use native.Mathlib.Omega.{arith}
 use lib.Dec.{leb, ltb}
 use lib.ListN.{length}
 use borrow.Author.Tests.{ltb-true}
+use Rattle.register.specs.declared.frame.AccessWidth.the-variants.{Dword}
 use Rattle.state.specs.declared.layout.Shape.{Shape}
 use Rattle.state.specs.Lent.{shaped, inLimits}
 use Rattle.state.specs.Layout.{size}
@@ -21,16 +22,18 @@ use Rattle.state.specs.declared.layout.InterfaceValue.the-variants.{PriorityMas
 use Rattle.state.specs.Words.{recordAt, interfaceAt}
 use Rattle.answer.specs.Answer.{Outcome, gave}
 use Rattle.lawful.specs.Lawful.{Controls}
-use Rattle.history.specs.History.{Call, Setup, called, run, noStart, iarRead, eoirWrite}
+use Rattle.history.specs.History.{Call, Setup, ReadDistributor, called, run, noStart, iarRead, eoirWrite}
 use Rattle.history.proofs.Always.{a-fresh-controller, same-controller}
 use Rattle.corners.specs.Corners.{zeros}
 use Rattle.corners.proofs.Started.{started, setup-started, computing}
 use Rattle.stories.specs.Stories.{Takes, ahead, NoneAhead, TwoRings, bothWait, firstRead, oneWaits, secondRead, Sleeping, PulseInFlight, turn, readAgain, InService}
 use Rattle.handlers.specs.Handlers.{Handler, nextRead, runningRead, later, Runs, Foremost}
 use Rattle.handlers.proofs.Shielded.{a-handler-is-shielded}
+use Rattle.held_lines.specs.HeldLines.{HeldLine, waitsFirst, isRetired, waitsAgain, Holding}
+use Rattle.held_lines.proofs.Silence.{the-ring-is-never-silent}
 use Rattle.stories.proofs.TwoRings.{both-given}
 use Rattle.stories.proofs.PulseInFlight.{given-again}
-use Rattle.story_examples.specs.Examples.{lent, afterCalls, beforeRings, twoRingsFrom, ringsExample, beforePulse, pulseInFlightFrom, pulseExample, beforeHandler, neighbourRings, urgentRings, handlerFrom, handlerExample}
+use Rattle.story_examples.specs.Examples.{lent, afterCalls, beforeRings, twoRingsFrom, ringsExample, beforePulse, pulseInFlightFrom, pulseExample, beforeHandler, neighbourRings, urgentRings, handlerFrom, handlerExample, beforeLine, heldLineFrom, heldLineExample}
 
 -- the words after a setup and calls, from the state that setup leaves built once
 module _ (count limit : ℕ) (cs : List Call) where
@@ -243,3 +246,72 @@ neighbour-waits = subst (λ (s : List ℕ). NeighbourWaits (handlerFrom neighbou
 -- SPI 35, of 0x3f, is given
 pub urgent-read : nextRead false (handlerExample urgentRings) .value ≡ 35
 urgent-read = subst (λ (s : List ℕ). nextRead false (handlerFrom urgentRings s) .value ≡ 35) handler-words urgent-at
+
+-- a held line
+abbrev lineWords : List ℕ
+lineWords = begun 2 34 beforeLine
+
+line-controls : Controls (shaped 2 34) lineWords
+unfolding zeros beforeLine
+line-controls = controls 2 34 beforeLine refl refl refl
+
+line-holds : Holding (heldLineFrom lineWords)
+unfolding run zeros beforeLine heldLineFrom computing
+line-holds = record {
+  controls = line-controls;
+  there = record { numbered = omega arith; banked = λ e. omega (arith, e) };
+  no-sgi = omega arith;
+  level = refl;
+  held₁ = refl;
+  held₂ = refl;
+  its-retirer = refl;
+  retired = refl;
+  held₃ = refl;
+}
+
+-- vCPU 1 can take it while it waits, first and again, and nothing goes before it
+abbrev its : HeldLine
+its = heldLineFrom lineWords
+
+first-takes : Takes (shaped 2 34) 1 33 (waitsFirst its)
+unfolding run zeros beforeLine heldLineFrom computing
+first-takes = can-take (shaped 2 34) 1 33 (waitsFirst its) refl
+
+again-takes : Takes (shaped 2 34) 1 33 (waitsAgain its)
+unfolding run zeros beforeLine heldLineFrom computing
+again-takes = can-take (shaped 2 34) 1 33 (waitsAgain its) refl
+
+line-first : tested (shaped 2 34) 1 33 (waitsFirst its) ≡ true
+unfolding run zeros beforeLine heldLineFrom computing
+line-first = refl
+
+line-again : tested (shaped 2 34) 1 33 (waitsAgain its) ≡ true
+unfolding run zeros beforeLine heldLineFrom computing
+line-again = refl
+
+-- what ISPENDR reads after the clears, what vCPU 1 is given, whom its EOIR wakes, and what it is given after one more clear
+pub record RingsOn (h : HeldLine) : Type 0 where
+  pub pending : called (ReadDistributor 0 0x204 Dword) (waitsFirst h) .value ≡ 0x2
+  pub given : called (iarRead 1) (waitsFirst h) .value ≡ 33
+  pub wakes : isRetired h .wake ≡ 0x2
+  pub given-again : called (iarRead 1) (waitsAgain h) .value ≡ 33
+
+line-at : RingsOn its
+unfolding run zeros beforeLine heldLineFrom computing
+line-at = record {
+  pending = refl;
+  given = the-ring-is-never-silent its line-holds .waits .given 1 (record { exists = omega arith; its-reader = refl; takes = first-takes }) (none-ahead (shaped 2 34) 1 33 (waitsFirst its) line-first);
+  wakes = refl;
+  given-again =
+      the-ring-is-never-silent its line-holds .still-waits .given 1 (record { exists = omega arith; its-reader = refl; takes = again-takes }) (none-ahead (shaped 2 34) 1 33 (waitsAgain its) line-again);
+}
+
+line-words : lineWords ≡ afterCalls 2 34 beforeLine
+unfolding zeros
+line-words = same-words 2 34 beforeLine refl refl
+
+pub line-held : Holding heldLineExample
+line-held = subst (λ (s : List ℕ). Holding (heldLineFrom s)) line-words line-holds
+
+pub line-rings-on : RingsOn heldLineExample
+line-rings-on = subst (λ (s : List ℕ). RingsOn (heldLineFrom s)) line-words line-at

@@ -1,4 +1,4 @@
--- An example of each story of crates/stories and crates/handlers, so that a reader need not wonder whether its hypotheses can hold. Each starts
+-- An example of each story of crates/stories, crates/handlers and crates/held_lines, so that a reader need not wonder whether its hypotheses can hold. Each starts
 -- from a fresh controller, in words that were 0 and are just enough.
 use mathlib.Core.Bool.{false}
 use mathlib.Core.List.{List, [], _∷_}
@@ -10,6 +10,7 @@ use Rattle.history.specs.History.{Call, Setup, ReadDistributor, WriteDistributo
 use Rattle.corners.specs.Corners.{zeros}
 use Rattle.stories.specs.Stories.{TwoRings, PulseInFlight}
 use Rattle.handlers.specs.Handlers.{Handler}
+use Rattle.held_lines.specs.HeldLines.{HeldLine}
 
 abbrev pub lent : ℕ → ℕ → List ℕ
 lent count limit = zeros (size (shaped count limit))
@@ -112,3 +113,33 @@ handlerFrom meanwhile s = record { shape = shaped 2 36; words = s; vcpu = 0; ali
 
 abbrev pub handlerExample : List Call → Handler
 handlerExample meanwhile = handlerFrom meanwhile (afterCalls 2 36 beforeHandler)
+
+-- The driver's held line. Before it all is turned on; SPI 33, which is level, is made vCPU 1's and enabled.
+unfoldable pub beforeLine : List Call
+beforeLine =
+    WriteDistributor 0 0x000 Dword 1
+    ∷ WriteCpuInterface 1 0x00 Dword 1
+    ∷ WriteCpuInterface 1 0x04 Dword 255
+    ∷ WriteDistributor 0 0x821 Byte 2
+    ∷ WriteDistributor 1 0x104 Dword 0x2
+    ∷ []
+
+-- The device raises its line. The driver, on vCPU 0, clears SPI 33's pending bit, and then every one; vCPU 1 acknowledges it and clears it while it
+-- serves it; it writes 33 to EOIR, with the line still high; and the driver clears it again.
+unfoldable pub heldLineFrom : List ℕ → HeldLine
+heldLineFrom s = record {
+  shape = shaped 2 34;
+  words = s;
+  vcpu = 0;
+  interrupt = 33;
+  meanwhile₁ = WriteDistributor 0 0x284 Dword 0x2 ∷ WriteDistributor 0 0x284 Dword 0xffffffff ∷ [];
+  meanwhile₂ = iarRead 1 ∷ WriteDistributor 1 0x284 Dword 0x2 ∷ [];
+  retirer = 1;
+  offset = 0x10;
+  width = Dword;
+  writes = 33;
+  meanwhile₃ = WriteDistributor 0 0x284 Dword 0x2 ∷ [];
+}
+
+abbrev pub heldLineExample : HeldLine
+heldLineExample = heldLineFrom (afterCalls 2 34 beforeLine)

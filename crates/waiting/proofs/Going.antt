@@ -4,7 +4,6 @@ use mathlib.Core.Path.{_≡_, sym, _∙_}
 use mathlib.Core.Bool.{Bool, true, false, _&&_, true≢false, false≢true}
 use mathlib.Core.List.{List}
 use Prim.Native.Nat.{ℕ, _≤_, _<_}
-use native.Mathlib.Omega.{arith}
 use lib.Dec.{eqb}
 use borrow.Author.Tests.{eqb-true}
 use Rattle.register.specs.declared.frame.AccessWidth.{AccessWidth}
@@ -36,8 +35,8 @@ use Rattle.waiting.proofs.Keeping.{handedOut, acknowledge-cases}
 
 -- all that is asked of what is gone from words: `Gone`
 pub record Goes (shape : Shape) (s : List ℕ) (taker : Taker) (Gone : List ℕ → Type 0) : Type 0 where
-  pub some : taker .answer ≡ 1023 → ⊥
-  pub given-takes : (v : ℕ) (e : Candidate) → taker .by v ≡ true → Giving shape v e s → handedOut shape v e s ≡ taker .answer → Gone (given shape v e s)
+  pub some : taker .answer 1023 ≡ false
+  pub given-takes : (v : ℕ) (e : Candidate) → taker .by v ≡ true → Giving shape v e s → taker .answer (handedOut shape v e s) ≡ true → Gone (given shape v e s)
   pub write-found : (v : ℕ) (place : Place) (width : AccessWidth) (value : ℕ) → taker .by v ≡ true → taker .write (distributor.At place) width value ≡ true → Located place width
       → writePlaceLooksUp (place .class) (place .private) value ≡ true → v < shape .count
   pub write-takes : (v : ℕ) (place : Place) (width : AccessWidth) (value : ℕ) → taker .by v ≡ true → taker .write (distributor.At place) width value ≡ true
@@ -48,10 +47,10 @@ pub record Goes (shape : Shape) (s : List ℕ) (taker : Taker) (Gone : List ℕ 
   pub signal-found : (v n : ℕ) (signal : Signal) → taker .by v ≡ true → taker .signal n signal ≡ true → RecordThere shape v n × (16 ≤ n)
   pub signal-takes : (v n : ℕ) (signal : Signal) → taker .by v ≡ true → taker .signal n signal ≡ true → Gone (changed shape v n (input.signalled signal) s)
 
-gives-nothing : (x : ℕ) (a : CpuInterfaceAccess) (r : Refusal) (s : List ℕ) → gives x a (refused r s) ≡ true → ⊥
-gives-nothing x (interface.Refused q) r s e = false≢true e
-gives-nothing x (interface.At register) r s e =
-    let front = left-true (acknowledging register && eqb (refusalNumber r) 0) (eqb 0 x) e in
+gives-nothing : (these : ℕ → Bool) (a : CpuInterfaceAccess) (r : Refusal) (s : List ℕ) → gives these a (refused r s) ≡ true → ⊥
+gives-nothing these (interface.Refused q) r s e = false≢true e
+gives-nothing these (interface.At register) r s e =
+    let front = left-true (acknowledging register && eqb (refusalNumber r) 0) (these 0) e in
     some-refusal r (eqb-true (refusalNumber r) 0 (right-true (acknowledging register) (eqb (refusalNumber r) 0) front))
 
 module _ {shape : Shape} {s : List ℕ} {taker : Taker} {Gone : List ℕ → Type 0} (g : Goes shape s taker Gone) (h : Controls shape s) where
@@ -83,8 +82,8 @@ module _ {shape : Shape} {s : List ℕ} {taker : Taker} {Gone : List ℕ → Typ
       → Takes (Acts (ReadsRegister v (interface.At register))) (readAnswer (acknowledge shape v s) s (acknowledged shape v s))
   acknowledges v register is looked =
       acknowledge-cases shape s h v looked (Takes (Acts (ReadsRegister v (interface.At register))))
-      (λ e. absurd (g .some (let p : 1023 ≡ taker .answer = eqb-true 1023 (taker .answer) (rw is at (by-and v e .1)) in omega (arith, p))))
-      (λ d o e. g .given-takes v d (by-and v e .0) o (eqb-true (handedOut shape v d s) (taker .answer) (rw is at (by-and v e .1))))
+      (λ e. absurd (true≢false (sym (rw is at (by-and v e .1)) ∙ g .some)))
+      (λ d o e. g .given-takes v d (by-and v e .0) o (rw is at (by-and v e .1)))
 
   pub call-takes : (c : Call) → isStart c ≡ false → Takes (deed c) (called c s)
   call-takes =

@@ -5,11 +5,11 @@ use mathlib.Core.Bool.{Bool, true, false, not, _&&_, true≢false}
 use mathlib.Core.List.{List, [], _∷_}
 use Prim.Native.Nat.{ℕ, _+_, _*_, _-_, _≤_, _<_}
 use native.Mathlib.Omega.{arith}
-use lib.Dec.{eqb, leb, ltb}
+use lib.Dec.{leb, ltb}
 use borrow.Author.Tests.{eqb-true, not-true, le-leb, lt-ltb, leb-true, ltb-true}
 use Rattle.register.specs.declared.frame.AccessWidth.{AccessWidth}
 use Rattle.register.specs.declared.«cpu_interface».CpuInterfaceRegister.{CpuInterfaceRegister}
-use Rattle.register.specs.declared.distributor.DistributorAccess.{DistributorAccess}
+use Rattle.register.specs.declared.distributor.Place.{Place}
 use Rattle.register.specs.declared.distributor.DistributorAccess.the-variants as distributor
 use Rattle.register.specs.declared.«cpu_interface».CpuInterfaceAccess.the-variants as interface
 use Rattle.register.specs.declared.ranges.Class.{Class}
@@ -21,6 +21,7 @@ use Rattle.state.proofs.Tests.{left-true, right-true}
 use Rattle.select.specs.declared.Candidate.{Candidate}
 use Rattle.acknowledge.specs.Acknowledge.{sourceOf, given, acknowledge, acknowledged}
 use Rattle.cpu_interface.specs.CpuInterface.{acknowledging}
+use Rattle.places.specs.Places.{writePlace, PlaceWritten}
 use Rattle.answer.specs.Answer.{Outcome, gave, went}
 use Rattle.cpu_interface_frame.specs.CpuInterfaceFrame.{readAnswer}
 use Rattle.input.specs.declared.Signal.{Signal}
@@ -34,7 +35,7 @@ use Rattle.moves.proofs.Acknowledges.{each-acknowledge}
 use Rattle.moves.proofs.Controllers.{chain-keeps}
 use Rattle.moves.proofs.Sounds.{lawful-sound}
 use Rattle.history.specs.History.{Call, ReadsRegister, Signals, Deed, Acts, deed, isStart, called, run}
-use Rattle.history.specs.Made.{PlaceMade, WriteMade, signalChange}
+use Rattle.history.specs.Made.{ClassMade, WriteMade, signalChange}
 use Rattle.history.proofs.Always.{each-start, every-other-call}
 use Rattle.history.proofs.Calls.{write-chain}
 use Rattle.history.proofs.Chains.{place-chain}
@@ -97,13 +98,23 @@ module _ (taker : List ℕ → Taker) where
   pub history-controls : {shape : Shape} (cs : List Call) (s : List ℕ) → Controls shape s → never (taking taker) cs s ≡ true → Controls shape (run cs s)
   history-controls {shape} = never-keeps (taking taker) (Controls shape) call-controls
 
+-- a chain of moves that spare it keeps it, and so does a write to the Distributor all of whose moves do
+module _ {shape : Shape} {holds : List ℕ → Bool} {Spares : Move → List ℕ → Type 0}
+    (kept : (m : Move) (s : List ℕ) → Controls shape s → Open shape m s → Spares m s → holds s ≡ true → holds (moved shape m s) ≡ true) where
+  spared-chain : {May : Move → Type 0} {s r : List ℕ} → ((m : Move) → May m → (t : List ℕ) → Spares m t) → Chain shape May s r → Controls shape s → holds s ≡ true → holds r ≡ true
+  spared-chain spares c h now = chain-keeps (λ t. holds t ≡ true) (λ m t may o controls p. kept m t controls o (spares m may t) p) c h now
+
+  pub spared-write : (s : List ℕ) → Controls shape s → holds s ≡ true → (v : ℕ) (place : Place) (width : AccessWidth) (value : ℕ) → PlaceWritten shape v place width value s
+      → ((m : Move) → ClassMade shape v (place .class) (place .first .0) width value m → (t : List ℕ) → Spares m t) → holds (writePlace shape v place width value s) ≡ true
+  spared-write s h now v place width value at spares = spared-chain spares (place-chain shape v width value s (lawful-sound (h .lawful)) place at) h now
+
 -- all that is asked of what waits in controllers of this shape: `holds` of a state, `takes` of a call in a state, `Spares` of a move in a state
 pub record Waits (shape : Shape) (holds : List ℕ → Bool) (taker : List ℕ → Taker) (Spares : Move → List ℕ → Type 0) : Type 0 where
   pub kept : (m : Move) (s : List ℕ) → Controls shape s → Open shape m s → Spares m s → holds s ≡ true → holds (moved shape m s) ≡ true
-  pub read : (s : List ℕ) (v : ℕ) (e : Candidate) → (taker s .by v && eqb (handedOut shape v e s) (taker s .answer)) ≡ false → Spares (Given v e) s
+  pub read : (s : List ℕ) (v : ℕ) (e : Candidate) → (taker s .by v && taker s .answer (handedOut shape v e s)) ≡ false → Spares (Given v e) s
   pub ended : (v : ℕ) (m : Move) → WriteMade v m → (r : List ℕ) → Spares m r
-  pub written : (s : List ℕ) (v : ℕ) (a : DistributorAccess) (width : AccessWidth) (value : ℕ) → (taker s .by v && taker s .write a width value) ≡ false
-      → (m : Move) → PlaceMade shape v a width value m → (r : List ℕ) → Spares m r
+  pub written : (s : List ℕ) → Controls shape s → holds s ≡ true → (v : ℕ) (place : Place) (width : AccessWidth) (value : ℕ) → PlaceWritten shape v place width value s
+      → (taker s .by v && taker s .write (distributor.At place) width value) ≡ false → holds (writePlace shape v place width value s) ≡ true
   pub signalled : (s : List ℕ) (v n : ℕ) (signal : Signal) → (taker s .by v && taker s .signal n signal) ≡ false → Spares (Changed v n (signalChange signal)) s
 
 module _ {shape : Shape} {holds : List ℕ → Bool} {taker : List ℕ → Taker} {Spares : Move → List ℕ → Type 0} (w : Waits shape holds taker Spares) where
@@ -111,9 +122,6 @@ module _ {shape : Shape} {holds : List ℕ → Bool} {taker : List ℕ → Taker
     -- a call that comes to this takes it, or it holds
     abbrev Keeps : Deed → Outcome → Type 0
     Keeps d o = takenBy (taker s) d o ≡ false → holds (o .state) ≡ true
-
-    chained : {May : Move → Type 0} {r : List ℕ} → ((m : Move) → May m → (t : List ℕ) → Spares m t) → Chain shape May s r → holds r ≡ true
-    chained spares c = chain-keeps (λ t. holds t ≡ true) (λ m t may o controls p. w .kept m t controls o (spares m may t) p) c h now
 
     acknowledges : (v : ℕ) (register : CpuInterfaceRegister) → acknowledging register ≡ true
         → (enabledAt shape s ≡ true → v < shape .count) → Keeps (Acts (ReadsRegister v (interface.At register))) (readAnswer (acknowledge shape v s) s (acknowledged shape v s))
@@ -128,8 +136,8 @@ module _ {shape : Shape} {holds : List ℕ → Bool} {taker : List ℕ → Taker
     other-stays : (c : Call) → isStart c ≡ false → Keeps (deed c) (called c s)
     other-stays =
         each-call shape s (valid shape s h) (λ c. Keeps) (λ c d r may bar e. now) (λ c by x e. now) (λ c v register x no e. now) (λ c v register is looked full. acknowledges v register is looked)
-        (λ c v register value looked e. chained (w .ended v) (write-chain shape s (valid shape s h) v value register looked))
-        (λ c v place width value at e. chained (w .written s v (distributor.At place) width value e) (place-chain shape v width value s (lawful-sound (h .lawful)) place at))
+        (λ c v register value looked e. spared-chain (w .kept) (w .ended v) (write-chain shape s (valid shape s h) v value register looked) h now)
+        (λ c v place width value at e. w .written s h now v place width value at e)
         (λ c v n signal there past. signals v n there past signal)
 
   -- one call

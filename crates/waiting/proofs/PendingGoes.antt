@@ -1,13 +1,13 @@
 -- The calls that take a pending PPI or SPI do take it: after each of them it is not pending. Assumes nothing.
 use mathlib.Core.Path.{_≡_, refl, sym, ap, subst, _∙_}
-use mathlib.Core.Bool.{Bool, true, false, _&&_, and-false, true≢false, false≢true}
+use mathlib.Core.Bool.{Bool, true, false, not, _&&_, and-false, true≢false, false≢true}
 use mathlib.Core.List.{List}
-use Prim.Native.Nat.{ℕ, _+_, _-_, _≤_, _<_}
+use Prim.Native.Nat.{ℕ, _-_, _≤_, _<_}
 use native.Mathlib.Omega.{arith}
 use lib.Dec.{eqb}
-use borrow.Author.Tests.{le-ltb, eqb-true}
+use borrow.Author.Tests.{eqb-true, ne-eqb, not-true}
 use Rattle.interrupt.specs.declared.record.InterruptRecord.{InterruptRecord}
-use Rattle.interrupt.specs.Record.{setLevel, markInflight, setOwner, setState, synchronizeInflight, fallsIdle}
+use Rattle.interrupt.specs.Record.{setLevel, markInflight, setOwner, setState, synchronizeInflight, held, fallsIdle}
 use Rattle.word.specs.Fields.{fieldAt}
 use Rattle.word.specs.Word.{recordOf}
 use Rattle.register.specs.declared.frame.AccessWidth.{AccessWidth}
@@ -17,10 +17,8 @@ use Rattle.register.specs.declared.distributor.Place.{Place}
 use Rattle.register.specs.declared.distributor.DistributorAccess.the-variants as distributor
 use Rattle.state.specs.declared.layout.Shape.{Shape}
 use Rattle.state.specs.Layout.{Slot}
-use Rattle.state.specs.Words.{wordAt, RecordThere, recordAt, changed, interfaceAt}
+use Rattle.state.specs.Words.{wordAt, RecordThere, recordAt, changed}
 use Rattle.state.proofs.Tests.{left-true, right-true}
-use Rattle.bits.specs.Bits.{writeBits, BitWordAt}
-use Rattle.bits.proofs.Registers.{record-written}
 use Rattle.select.specs.declared.Candidate.{Candidate}
 use Rattle.select.proofs.Meaning.{candidate-idle, best-is}
 use Rattle.acknowledge.specs.Acknowledge.{givenRecord, given}
@@ -32,7 +30,6 @@ use Rattle.lawful.specs.Lawful.{OrderlyRecord, Controls}
 use Rattle.moves.specs.Moves as moves
 use Rattle.moves.specs.Moves.{Giving}
 use Rattle.moves.proofs.Controllers.{changed-record}
-use Rattle.moves.proofs.Pending.{left-cleared}
 use Rattle.moves.proofs.Slots.{givable}
 use Rattle.moves.proofs.Sounds.{lawful-sound}
 use Rattle.input.specs.declared.Signal.{Signal}
@@ -40,9 +37,10 @@ use Rattle.input.specs.declared.Signal.the-variants.{Level, Edge}
 use Rattle.input.specs.Input.{signalled}
 use Rattle.history.specs.History.{Call, isStart, called}
 use Rattle.waiting.specs.Waiting.{pends, meets, isClass, among, clearsPendingAt, lowers, pendingTaker, takesPending}
+use Rattle.waiting.proofs.Clearing.{cleared-pends}
 use Rattle.waiting.proofs.Going.{Goes, call-takes}
 use Rattle.waiting.proofs.Keeping.{is-class, among-is, handedOut}
-use Rattle.waiting.proofs.PendingMoves.{met-slot, met-there}
+use Rattle.waiting.proofs.RecordMoves.{met-slot, met-there}
 
 -- what a falling line and an acknowledge do to a record
 fallen : (r : InterruptRecord) (asserted : Bool) → fallsIdle r asserted ≡ true → setLevel r asserted .pending ≡ false
@@ -57,13 +55,6 @@ handed v r = refl
 -- at the vCPU u that makes the call
 module _ (shape : Shape) (n : ℕ) (past : 16 ≤ n) (s : List ℕ) (h : Controls shape s) (u : ℕ) (there : RecordThere shape u n) where
   -- ICPENDR
-  word-clears : (first value i : ℕ) → BitWordAt shape Icpendr u first s → i < 32 → first + i ≡ n → eqb (fieldAt 1 i value) 1 ≡ true
-      → pends shape u n (writeBits shape Icpendr u first value s) ≡ false
-  word-clears first value i at inside is set =
-      subst (λ (m : ℕ). pends shape u m (writeBits shape Icpendr u first value s) ≡ false) is
-      (ap (λ (r : InterruptRecord). r .pending) (record-written shape Icpendr u first value s at i inside (rw is (there .numbered)))
-      ∙ simp (set, le-ltb (first + i) 16 (rw is past)) (left-cleared (recordAt shape u (first + i) s)))
-
   module _ (place : Place) (width : AccessWidth) (value : ℕ) (clears : clearsPendingAt n (distributor.At place) value ≡ true) (located : Located place width) where
     abbrev first : ℕ
     first = place .first .0
@@ -77,20 +68,21 @@ module _ (shape : Shape) (n : ℕ) (past : 16 ≤ n) (s : List ℕ) (h : Control
     is : place .class ≡ Bits Icpendr
     is = is-class (Bits Icpendr) (place .class) (left-true (isClass (Bits Icpendr) (place .class)) (among n first 32) front)
 
-    inside : (first + (n - first) ≡ n) × (n - first < 32)
-    inside = among-is n first 32 (right-true (isClass (Bits Icpendr) (place .class)) (among n first 32) front)
+    run : among n first 32 ≡ true
+    run = right-true (isClass (Bits Icpendr) (place .class)) (among n first 32) front
 
     own-private : place .private ≡ true → u < shape .count
-    own-private q = there .banked (omega (arith, private-word shape u place width s (h .lawful .in-range .state) located Icpendr is q, inside .0, inside .1))
+    own-private q = there .banked (omega (arith, private-word shape u place width s (h .lawful .in-range .state) located Icpendr is q, among-is n first 32 run))
 
     write-found : writePlaceLooksUp (place .class) (place .private) value ≡ true → u < shape .count
     write-found q = own-private (rw is at q)
 
-    write-takes : pends shape u n (writePlace shape u place width value s) ≡ false
-    write-takes =
+    -- as any vCPU v meets it
+    write-takes : (v : ℕ) → RecordThere shape v n → meets v n u ≡ true → held (recordAt shape v n s) ≡ false → pends shape v n (writePlace shape u place width value s) ≡ false
+    write-takes v its by low =
         rw is
-        (word-clears first value (n - first) (bit-word shape u place width s (h .lawful .in-range .state) located Icpendr is own-private) (inside .1) (inside .0)
-        (right-true (isClass (Bits Icpendr) (place .class) && among n first 32) field clears))
+        (cleared-pends shape v n its past u first value s (bit-word shape u place width s (h .lawful .in-range .state) located Icpendr is own-private)
+        ∙ simp (by, run, right-true (isClass (Bits Icpendr) (place .class) && among n first 32) field clears, low, and-false))
 
   -- a line that falls
   signal-takes : (signal : Signal) → lowers signal (recordAt shape u n s) ≡ true → pends shape u n (changed shape u n (signalled signal) s) ≡ false
@@ -132,11 +124,13 @@ module _ (shape : Shape) (v n : ℕ) (there : RecordThere shape v n) (past : 16 
 
     pending-going : Goes shape s (pendingTaker shape v n s) (λ r. pends shape v n r ≡ false)
     pending-going = record {
-      some = λ p. omega (arith, p, there .numbered, h .lawful .in-range .state .limits .few-numbers);
-      given-takes = λ u e by o answers. for-all u (given shape u e s) by (given-takes shape n past s h u (met-there v n u by there) e o answers);
-      write-found = λ u place width value by clears located. write-found shape n past s h u (met-there v n u by there) place width value clears located;
-      write-takes = λ u place width value by clears at.
-          for-all u (writePlace shape u place width value s) by (write-takes shape n past s h u (met-there v n u by there) place width value clears (at .located));
+      some = ne-eqb 1023 n (λ p. omega (arith, p, there .numbered, h .lawful .in-range .state .limits .few-numbers));
+      given-takes = λ u e by o answers. for-all u (given shape u e s) by (given-takes shape n past s h u (met-there v n u by there) e o (eqb-true (handedOut shape u e s) n answers));
+      write-found = λ u place width value by takes located.
+          write-found shape n past s h u (met-there v n u by there) place width value (left-true (clearsPendingAt n (distributor.At place) value) (not (held (recordAt shape v n s))) takes) located;
+      write-takes = λ u place width value by takes at.
+          write-takes shape n past s h u (met-there v n u by there) place width value (left-true (clearsPendingAt n (distributor.At place) value) (not (held (recordAt shape v n s))) takes) (at .located) v there by
+          (not-true (held (recordAt shape v n s)) (right-true (clearsPendingAt n (distributor.At place) value) (not (held (recordAt shape v n s))) takes));
       nowhere-refused = λ r width value. refl;
       nowhere-private = λ width value. refl;
       no-pulse = λ m. and-false (eqb m n);

@@ -1,124 +1,83 @@
--- A pending PPI or SPI stays pending until it is given, or until its bit is written to ICPENDR, or until the line of a level interrupt that is
--- not active falls, or until all starts anew. Assumes nothing.
-use mathlib.Core.Path.{_≡_}
-use mathlib.Core.Bool.{true, false, not, _&&_, true≢false}
+-- A pending PPI or SPI stays pending until it is given, or until its bit is written to ICPENDR while its line is not held, or until the line of a
+-- level interrupt that is not active falls, or until all starts anew. Assumes nothing.
+use mathlib.Core.Path.{_≡_, refl, _∙_}
+use mathlib.Core.Bool.{Bool, true, false, not, _&&_, true≢false}
 use mathlib.Core.List.{List}
-use mathlib.Core.Logic.{_⊎_, inl, inr}
-use Prim.Native.Nat.{ℕ, _+_, _-_, _≤_, _<_}
+use Prim.Native.Nat.{ℕ, _-_, _≤_}
 use native.Mathlib.Omega.{arith}
-use lib.Dec.{eqb, ltb}
+use lib.Dec.{eqb}
 use borrow.Author.Tests.{le-ltb, eq-eqb}
-use Rattle.interrupt.specs.declared.record.InterruptRecord.{InterruptRecord}
+use Rattle.interrupt.specs.Record.{held}
 use Rattle.word.specs.Fields.{fieldAt}
 use Rattle.register.specs.declared.frame.AccessWidth.{AccessWidth}
-use Rattle.register.specs.declared.ranges.BitRegister.{BitRegister}
-use Rattle.register.specs.declared.ranges.BitRegister.the-variants.{Igroupr, Isenabler, Icenabler, Ispendr, Icpendr, Isactiver, Icactiver, Icfgr}
-use Rattle.register.specs.declared.ranges.ByteRegister.the-variants.{Ipriorityr, Itargetsr, Cpendsgir, Spendsgir}
-use Rattle.register.specs.declared.ranges.Class.{Class}
-use Rattle.register.specs.declared.ranges.Class.the-variants.{Ctlr, Typer, Iidr, Sgir, Bits, Bytes, Other}
-use Rattle.register.specs.declared.distributor.DistributorAccess.{DistributorAccess}
+use Rattle.register.specs.declared.ranges.BitRegister.the-variants.{Icpendr}
+use Rattle.register.specs.declared.ranges.Class.the-variants.{Bits}
+use Rattle.register.specs.declared.distributor.Place.{Place}
 use Rattle.register.specs.declared.distributor.DistributorAccess.the-variants as distributor
 use Rattle.state.specs.declared.layout.Shape.{Shape}
-use Rattle.state.specs.Words.{recordSlot, RecordThere, recordAt}
-use Rattle.state.proofs.Tests.{left-true}
+use Rattle.state.specs.Words.{RecordThere, recordAt}
 use Rattle.select.specs.declared.Candidate.{Candidate}
 use Rattle.acknowledge.specs.Acknowledge.{sourceOf}
+use Rattle.places.specs.Places.{writePlace, PlaceWritten}
+use Rattle.places.proofs.Fits.{bit-word}
 use Rattle.input.specs.declared.Signal.{Signal}
 use Rattle.input.specs.declared.Signal.the-variants.{Level, Edge}
 use Rattle.lawful.specs.Lawful.{Controls}
-use Rattle.moves.specs.Moves.{Change, SetEnabled, SetPending, SetActive, CancelInflight, SetTrigger, SetPriority, SetCpuTargetMask, SetLevel, Pulse, DeactivateInflight, Complete, ClearDeliveryState, Move, Changed, Sourced, Kept, Switched, Given, Popped}
+use Rattle.moves.specs.Moves.{Move, Changed, Given, moved, Open}
 use Rattle.history.specs.History.{Call, called, run}
-use Rattle.history.specs.Made.{BitMade, ClassMade, PlaceMade, Ends, WriteMade, signalChange}
-use Rattle.waiting.specs.Waiting.{pends, meets, isClass, among, clearsPendingAt, lowers, pendingTaker, takesPending, never}
-use Rattle.waiting.proofs.Keeping.{run-at, handedOut, Waits, call-keeps, history-controls, history-keeps}
-use Rattle.waiting.proofs.PendingMoves.{SparesRecord, met, Spares, move-pends}
+use Rattle.history.specs.Made.{signalChange}
+use Rattle.waiting.specs.Waiting.{pends, meets, isClass, among, lowers, pendingTaker, takesPending, never}
+use Rattle.waiting.proofs.Clearing.{cleared-pends}
+use Rattle.waiting.proofs.Keeping.{is-class, handedOut, spared-write, Waits, call-keeps, history-controls, history-keeps}
+use Rattle.waiting.proofs.PendingMoves.{pending-lasts}
+use Rattle.waiting.proofs.RecordMoves.{met, Spares, move-keeps, write-spares, class-spares}
 
 module _ (shape : Shape) (v n : ℕ) (there : RecordThere shape v n) (no-sgi : 16 ≤ n) where
-  -- a write to the Distributor: only ICPENDR clears, the numbers whose field is 1
-  module _ (u value : ℕ) (m : Move) (s : List ℕ) where
-    icpendr-spares : (first at : ℕ) → at < 32 → eqb (fieldAt 1 at value) 1 ≡ true → (meets v n u && (among n first 32 && eqb (fieldAt 1 (n - first) value) 1)) ≡ false
-        → recordSlot v n ≡ recordSlot u (first + at) → ⊥
-    icpendr-spares first at inside field e p =
-        let here = run-at n first at 32 inside (met v n u (first + at) p .number) in
-        true≢false (simp (met v n u (first + at) p .meeting, here .0, here .1, field) at e)
+  keeps : (m : Move) (s : List ℕ) → Controls shape s → Open shape m s → Spares pending-lasts shape v n m s → pends shape v n s ≡ true → pends shape v n (moved shape m s) ≡ true
+  keeps m s h o spares now = move-keeps pending-lasts shape v n there no-sgi s h now m o spares
 
-    active-spares : (c : Change) → (c ≡ SetActive false) ⊎ (c ≡ CancelInflight) → SparesRecord c (recordAt shape v n s)
-    active-spares c (inl makes) = rw makes tt
-    active-spares c (inr makes) = rw makes tt
+  -- a write to the Distributor: only ICPENDR clears, the numbers whose field is 1 and whose line is not held
+  pending-written : (s : List ℕ) → Controls shape s → pends shape v n s ≡ true → (u : ℕ) (place : Place) (width : AccessWidth) (value : ℕ) → PlaceWritten shape u place width value s
+      → (pendingTaker shape v n s .by u && pendingTaker shape v n s .write (distributor.At place) width value) ≡ false → pends shape v n (writePlace shape u place width value s) ≡ true
+  pending-written s h now u place width value at e = go (isClass (Bits Icpendr) (place .class)) refl
+    where
+      -- of the four tests one fails
+      spared : (a b c d p : Bool) → (a && (b && c && d)) ≡ false → p ≡ true → (p && not ((a && b) && c && d)) ≡ true
+      spared true true true d p e q = rw (q, e) refl
+      spared true true false d p e q = rw q refl
+      spared true false c d p e q = rw q refl
+      spared false b c d p e q = rw q refl
 
-    -- no other change of a bit register clears it
-    bit-spares : (register : BitRegister) (first : ℕ) → (meets v n u && (isClass (Bits Icpendr) (Bits register) && among n first 32 && eqb (fieldAt 1 (n - first) value) 1)) ≡ false
-        → BitMade register u first value m → Spares shape v n m s
-    bit-spares Igroupr first e made = absurd (made .makes)
-    bit-spares Isenabler first e made = rw (made .is, made .makes) (λ p. tt)
-    bit-spares Icenabler first e made = rw (made .is, made .makes) (λ p. tt)
-    bit-spares Ispendr first e made = rw (made .is, made .makes) (λ p. tt)
-    bit-spares Icpendr first e made =
-        rw (made .is)
-        (λ p. absurd (icpendr-spares first (made .at) (made .in-word) (left-true (eqb (fieldAt 1 (made .at) value) 1) (not (ltb (first + made .at) 16)) (made .acting)) e p))
-    bit-spares Isactiver first e made = rw (made .is, made .makes) (λ p. tt)
-    bit-spares Icactiver first e made = rw (made .is) (λ p. active-spares (made .change) (made .makes))
-    bit-spares Icfgr first e made = rw (made .is, made .makes) (λ p. tt)
-
-    class-spares : (c : Class) (width : AccessWidth) (first : ℕ) → (meets v n u && (isClass (Bits Icpendr) c && among n first 32 && eqb (fieldAt 1 (n - first) value) 1)) ≡ false
-        → ClassMade shape u c first width value m → Spares shape v n m s
-    class-spares Ctlr width first e made = rw made tt
-    class-spares Typer width first e made = absurd made
-    class-spares Iidr width first e made = absurd made
-    class-spares Sgir width first e made = rw (made .is) tt
-    class-spares (Bits register) width first e made = bit-spares register first e made
-    class-spares (Bytes Ipriorityr) width first e made = rw (made .is) (λ p. tt)
-    class-spares (Bytes Itargetsr) width first e made = rw (made .is) (λ p. tt)
-    class-spares (Bytes Cpendsgir) width first e made = rw (made .is) tt
-    class-spares (Bytes Spendsgir) width first e made = rw (made .is) tt
-    class-spares Other width first e made = absurd made
-
-    place-spares : (a : DistributorAccess) (width : AccessWidth) → (meets v n u && clearsPendingAt n a value) ≡ false → PlaceMade shape u a width value m → Spares shape v n m s
-    place-spares (distributor.Refused r) width e made = absurd made
-    place-spares distributor.PrivateWidth width e made = absurd made
-    place-spares (distributor.At place) width e made = class-spares (place .class) width (place .first .0) e made
-
-  -- what is ended keeps a pending bit that came meanwhile
-  end-spares : (c : Change) → Ends c → (r : InterruptRecord) → SparesRecord c r
-  end-spares (SetEnabled e) ends r = tt
-  end-spares (SetPending p) ends r = absurd ends
-  end-spares (SetActive a) ends r = tt
-  end-spares CancelInflight ends r = tt
-  end-spares (SetTrigger t) ends r = tt
-  end-spares (SetPriority q) ends r = tt
-  end-spares (SetCpuTargetMask b) ends r = tt
-  end-spares (SetLevel a) ends r = absurd ends
-  end-spares Pulse ends r = tt
-  end-spares DeactivateInflight ends r = tt
-  end-spares Complete ends r = tt
-  end-spares ClearDeliveryState ends r = absurd ends
-
-  write-spares : (u : ℕ) (m : Move) → WriteMade u m → (s : List ℕ) → Spares shape v n m s
-  write-spares u (Changed w k c) made s = λ p. end-spares c (made .1) (recordAt shape v n s)
-  write-spares u (Sourced w k on byte) made s = tt
-  write-spares u (Kept w k x) made s = tt
-  write-spares u (Switched value) made s = tt
-  write-spares u (Given w e) made s = absurd made
-  write-spares u (Popped w) made s = tt
+      go : (b : Bool) → isClass (Bits Icpendr) (place .class) ≡ b → pends shape v n (writePlace shape u place width value s) ≡ true
+      go true is =
+          let class = is-class (Bits Icpendr) (place .class) is in
+          let word = bit-word shape u place width s (at .state) (at .located) Icpendr class (λ q. at .looked (simp class q)) in
+          rw class (cleared-pends shape v n there no-sgi u (place .first .0) value s word
+          ∙ spared (meets v n u) (among n (place .first .0) 32) (eqb (fieldAt 1 (n - place .first .0) value) 1) (not (held (recordAt shape v n s))) (pends shape v n s) (rw class at e) now)
+      go false other =
+          spared-write {holds = pends shape v n} keeps s h now u place width value at
+          (λ m made r. class-spares pending-lasts shape v n r (record { enabled = λ b. tt; pended = tt; activated = λ b. tt; cancelled = tt; prioritized = λ q. tt; targeted = λ b. tt }) u width (place .first .0) value m (place .class)
+          (λ p clears. absurd (true≢false (rw p at other))) (λ p configures. rw (configures .is, configures .makes) (λ q. tt)) made)
 
   -- a read that answers another number
-  read-spares : (s : List ℕ) (u : ℕ) (e : Candidate) → (meets v n u && eqb (handedOut shape u e s) n) ≡ false → Spares shape v n (Given u e) s
+  read-spares : (s : List ℕ) (u : ℕ) (e : Candidate) → (meets v n u && eqb (handedOut shape u e s) n) ≡ false → Spares pending-lasts shape v n (Given u e) s
   unfolding sourceOf
   read-spares s u e free p =
       let at = met v n u (e .intid .0) p in
       true≢false (simp (at .meeting, eq-eqb (handedOut shape u e s) n (rw (at .number) (simp (le-ltb n 16 no-sgi) (omega arith)))) at free)
 
   -- a line that does not fall, or that of an interrupt which is active or edge
-  signal-spares : (s : List ℕ) (u m : ℕ) (signal : Signal) → (meets v n u && (eqb m n && lowers signal (recordAt shape v n s))) ≡ false → Spares shape v n (Changed u m (signalChange signal)) s
+  signal-spares : (s : List ℕ) (u m : ℕ) (signal : Signal) → (meets v n u && (eqb m n && lowers signal (recordAt shape v n s))) ≡ false
+      → Spares pending-lasts shape v n (Changed u m (signalChange signal)) s
   signal-spares s u m (Level asserted) e p = simp (met v n u m p .meeting, eq-eqb m n (met v n u m p .number)) at e
   signal-spares s u m Edge e p = tt
 
-  pending-waits : Waits shape (pends shape v n) (pendingTaker shape v n) (Spares shape v n)
+  pending-waits : Waits shape (pends shape v n) (pendingTaker shape v n) (Spares pending-lasts shape v n)
   pending-waits = record {
-    kept = λ m s h o spares now. move-pends shape v n there no-sgi s h now m o spares;
+    kept = keeps;
     read = read-spares;
-    ended = write-spares;
-    written = λ s u a width value e m made r. place-spares u value m r a width e made;
+    ended = write-spares pending-lasts shape v n (λ r. tt) (λ r. tt);
+    written = pending-written;
     signalled = signal-spares;
   }
 

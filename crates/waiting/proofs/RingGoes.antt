@@ -80,8 +80,10 @@ module _ (shape : Shape) (t n u : ℕ) (exists : t < shape .count) (sgi : n < 16
 
     ring-going : Goes shape s (ringTaker t n u) (λ r. rung shape t n u r ≡ false)
     ring-going = record {
-      some = λ p. omega (arith, p, sgi);
-      given-takes = λ v e by o answers. let is = eqb-true v t by in rw is (given-takes e (rw is at o) (rw is at answers));
+      some = ne-eqb 1023 (n + 1024 * u) (λ p. omega (arith, p, sgi));
+      given-takes = λ v e by o answers.
+          let is = eqb-true v t by in
+          rw is (given-takes e (rw is at o) (rw is at (eqb-true (handedOut shape v e s) (n + 1024 * u) answers)));
       write-found = λ v place width value by clears located q. rw (eqb-true v t by) exists;
       write-takes = λ v place width value by clears written. let is = eqb-true v t by in rw is (write-takes place width value clears (rw is at written));
       nowhere-refused = λ r width value. refl;

@@ -13,8 +13,6 @@ use Rattle.register.specs.declared.frame.AccessWidth.{AccessWidth}
 use Rattle.register.specs.declared.ranges.ByteRegister.the-variants.{Ipriorityr, Itargetsr, Cpendsgir, Spendsgir}
 use Rattle.register.specs.declared.ranges.Class.{Class}
 use Rattle.register.specs.declared.ranges.Class.the-variants.{Ctlr, Typer, Iidr, Sgir, Bits, Bytes, Other}
-use Rattle.register.specs.declared.distributor.DistributorAccess.{DistributorAccess}
-use Rattle.register.specs.declared.distributor.DistributorAccess.the-variants as distributor
 use Rattle.register.specs.Frame.{bytes}
 use Rattle.state.specs.declared.layout.Shape.{Shape}
 use Rattle.state.specs.Layout.{DistributorControl, Interface, Sources}
@@ -31,10 +29,10 @@ use Rattle.moves.proofs.Controllers.{sourced-sources}
 use Rattle.moves.proofs.Slots.{off-stack, Touches, givable, move-others}
 use Rattle.moves.proofs.Sounds.{lawful-sound}
 use Rattle.history.specs.History.{Call, called, run}
-use Rattle.history.specs.Made.{ClassMade, PlaceMade, WriteMade}
-use Rattle.waiting.specs.Waiting.{bit, rung, isClass, among, clearsSourceAt, ringTaker, takesRing, never}
+use Rattle.history.specs.Made.{ClassMade, WriteMade}
+use Rattle.waiting.specs.Waiting.{bit, rung, isClass, among, ringTaker, takesRing, never}
 use Rattle.waiting.proofs.BitLaws.{bit-below, bit-or, bit-cleared, bit-left}
-use Rattle.waiting.proofs.Keeping.{run-at, handedOut, Waits, call-keeps, history-controls, history-keeps}
+use Rattle.waiting.proofs.Keeping.{run-at, handedOut, spared-write, Waits, call-keeps, history-controls, history-keeps}
 
 module _ (shape : Shape) (t n u : ℕ) (exists : t < shape .count) (sgi : n < 16) where
   -- a move that leaves the ring: it clears no bit of it, and gives no SGI with it
@@ -112,11 +110,6 @@ module _ (shape : Shape) (t n u : ℕ) (exists : t < shape .count) (sgi : n < 16
     class-spares (Bytes Spendsgir) first e made = rw (made .is) tt
     class-spares Other first e made = absurd made
 
-    place-spares : (a : DistributorAccess) → (eqb v t && clearsSourceAt n u a width value) ≡ false → PlaceMade shape v a width value m → Spares m s
-    place-spares (distributor.Refused r) e made = absurd made
-    place-spares distributor.PrivateWidth e made = absurd made
-    place-spares (distributor.At place) e made = class-spares (place .class) (place .first .0) e made
-
   -- a write to a CPU interface takes none
   write-spares : (v : ℕ) (m : Move) → WriteMade v m → (s : List ℕ) → Spares m s
   write-spares v (Changed w k c) made s = tt
@@ -132,12 +125,16 @@ module _ (shape : Shape) (t n u : ℕ) (exists : t < shape .count) (sgi : n < 16
   read-spares s v e free p q lowest =
       true≢false (simp (eq-eqb v t p, eq-eqb (handedOut shape v e s) (n + 1024 * u) (rw (p, q) (simp (lt-ltb n 16 sgi, lowest) refl))) at free)
 
+  keeps : (m : Move) (s : List ℕ) → Controls shape s → Open shape m s → Spares m s → rung shape t n u s ≡ true → rung shape t n u (moved shape m s) ≡ true
+  keeps m s h o spares now = ring-kept s h now m o spares
+
   ring-waits : Waits shape (rung shape t n u) (λ r. ringTaker t n u) Spares
   ring-waits = record {
-    kept = λ m s h o spares now. ring-kept s h now m o spares;
+    kept = keeps;
     read = read-spares;
     ended = write-spares;
-    written = λ s v a width value e m made r. place-spares v width value m r a e made;
+    written = λ s h now v place width value at e.
+        spared-write {holds = rung shape t n u} keeps s h now v place width value at (λ m made r. class-spares v width value m r (place .class) (place .first .0) e made);
     signalled = λ s v m signal e. tt;
   }
 

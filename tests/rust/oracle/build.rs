@@ -1,14 +1,14 @@
 //! Makes the two Rust files modules of this crate.
 //!
-//! interrupt.rs is compiled as it is, with our `access` declared after its end. v2.rs is compiled with the TWO patches below and is
-//! otherwise as it is. Each is one departure from the Rust: document 01's "its priority is below the running priority", and request Two of
-//! document 02, the binary point.
+//! Both are compiled with patches, THREE in all, and are otherwise as they are. Each is one departure from the Rust: in v2.rs, below, document
+//! 01's "its priority is below the running priority" and request Two of document 02, the binary point; in interrupt.rs request Four, a held
+//! line, which is in `source`, since the program `interrupt` has it too. After the end of interrupt.rs our `access` is declared.
 
 /// Both go where a candidate has been found and nothing has been changed yet, the second before the first. After them v2.rs uses the
 /// candidate's priority once more: it is pushed on the stack.
 const BEFORE: &str = "        let mut delivery = state\n";
 
-const RUNNING_PRIORITY: &str = r#"        // PATCH 1 of 2: document 01 and IHI 0048, the running-priority test of GICC_IAR.
+const RUNNING_PRIORITY: &str = r#"        // PATCH 1 of 3: document 01 and IHI 0048, the running-priority test of GICC_IAR.
         let running = state
             .redistributor(vcpu, "read GICC_IAR")?
             .cpu_interface()
@@ -18,7 +18,7 @@ const RUNNING_PRIORITY: &str = r#"        // PATCH 1 of 2: document 01 and IHI 0
         }
 "#;
 
-const GROUP_PRIORITY: &str = r#"        // PATCH 2 of 2: document 02 (Two) and IHI 0048, the group priority: with binary point b the low b+1 bits are cleared.
+const GROUP_PRIORITY: &str = r#"        // PATCH 2 of 3: document 02 (Two) and IHI 0048, the group priority: with binary point b the low b+1 bits are cleared.
         let cleared = 1 + state
             .redistributor(vcpu, "read GICC_IAR")?
             .cpu_interface()
@@ -27,7 +27,7 @@ const GROUP_PRIORITY: &str = r#"        // PATCH 2 of 2: document 02 (Two) and I
 "#;
 
 fn main() {
-    source::interrupt_module();
+    source::patched_interrupt_module();
     let mut v2 = source::read("src/controller/v2.rs");
     for lines in [GROUP_PRIORITY, RUNNING_PRIORITY] {
         v2 = source::patched(&v2, "acknowledge_v2", BEFORE, lines)

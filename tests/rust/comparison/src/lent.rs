@@ -247,7 +247,8 @@ impl Shape {
         let at = self.place(random, Distributor, offset, width);
         match random.below(10) {
             0 | 1 => Request::Read(at),
-            2..6 => Request::Write(at, random.number()),
+            2 => Request::Write(at, u64::MAX),
+            3..6 => Request::Write(at, random.number()),
             _ => Request::Write(at, random.number() & random.number() & random.number()),
         }
     }

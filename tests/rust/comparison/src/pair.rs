@@ -81,12 +81,17 @@ impl<'a, L: Library> Pair<'a, L> {
     /// Makes the call of both; the oracle's answer, if all is equal.
     pub fn call(&mut self, request: &Request) -> Result<Answer, Difference> {
         self.requests.push(request.clone());
+        // What is cleared is known before the call, and whether it is accepted after it.
+        let clears = request.clears().map(|_| self.words().to_vec());
         let answer = match request {
             Request::Save { room } => self.save(request, *room)?,
             Request::Load(image) => self.load(request, image)?,
             _ => self.call_oracle(request)?,
         };
         self.tally.note(request, &answer, self.memory.lent());
+        if let (Some(before), 0) = (clears, answer.refusal) {
+            self.tally.note_clears(request, &before);
+        }
         self.ask_after(request, &answer)?;
         Ok(answer)
     }

@@ -3,6 +3,7 @@ use oracle::{
     AccessWidth,
     RegisterRegion::{self, CpuInterface, Distributor},
     machine::{Access, Answer, Call, Input},
+    register::{GICD_ICPENDR, GICD_ISACTIVER},
 };
 use std::{fmt, rc::Rc};
 
@@ -45,6 +46,22 @@ impl Request {
             return None;
         };
         self.call()?.acknowledged(answer).map(|_| at.vcpu)
+    }
+
+    /// Whose pending bits this clears where it is accepted, if it writes ICPENDR: its vCPU, and the numbers, which may be above the limit.
+    pub fn clears(&self) -> Option<(u64, impl Iterator<Item = usize>)> {
+        match *self {
+            Self::Write(at, value)
+                if at.region == Distributor
+                    && (GICD_ICPENDR..GICD_ISACTIVER).contains(&at.offset) =>
+            {
+                let first = (at.offset - GICD_ICPENDR) as usize * 8;
+                let named = (0..32).filter(move |bit| value >> bit & 1 == 1);
+                let numbers = named.map(move |bit| first + bit);
+                Some((at.vcpu, numbers.filter(|number| *number >= 16)))
+            }
+            _ => None,
+        }
     }
 
     /// The same access at another width; other calls have none.

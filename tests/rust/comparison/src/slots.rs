@@ -1,5 +1,13 @@
 //! Where things stand in the words of a state, and for a reader of a difference what stands at a place.
+use crate::request::Request;
 use oracle::words::{HEADER, STACK, VCPU, size, within_limits};
+
+/// Bits of a record's word.
+pub const PENDING: u32 = 1 << 1;
+pub const ACTIVE: u32 = 1 << 2;
+pub const NOTE: u32 = 1 << 4;
+pub const LINE: u32 = 1 << 5;
+pub const EDGE: u32 = 1 << 6;
 
 /// A vCPU's first word, and its stack's.
 pub fn places(words: &[u32], vcpu: u64) -> (usize, usize) {
@@ -14,6 +22,22 @@ pub fn record(words: &[u32], vcpu: u64, number: usize) -> usize {
         0..32 => places(words, vcpu).0 + 20 + number,
         _ => HEADER + VCPU * words[0] as usize + number - 32,
     }
+}
+
+/// Level, with the line high.
+pub fn is_held(record: u32) -> bool {
+    record & (LINE | EDGE) == LINE
+}
+
+/// The numbers and the words of the records that an accepted write of ICPENDR clears; none of another call.
+pub fn cleared(words: &[u32], request: &Request) -> Vec<(usize, usize)> {
+    let Some((vcpu, numbers)) = request.clears() else {
+        return vec![];
+    };
+    let below = numbers.filter(|number| *number < words[1] as usize);
+    below
+        .map(|number| (number, record(words, vcpu, number)))
+        .collect()
 }
 
 pub fn binary_point(words: &[u32], vcpu: u64) -> usize {

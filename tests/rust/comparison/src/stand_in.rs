@@ -145,6 +145,7 @@ fn what_is_equal_passes() {
         assert!(tally.refused_questions > 500, "{name}: {tally}");
         if ["histories", "lent words"].contains(name) {
             assert!(tally.points.iter().all(|count| *count > 50), "{tally}");
+            assert!(tally.met.iter().all(|count| *count > 10), "{tally}");
         }
     }
     let mut all = Tally::default();
@@ -476,12 +477,12 @@ fn a_wrong_load_is_found() {
 }
 
 #[test]
-fn a_wrong_binary_point_is_found() {
+fn a_request_taken_wrong_is_found() {
     for wrong::Controller {
         what,
         at_most,
         spoil,
-    } in wrong::CONTROLLERS
+    } in wrong::controllers()
     {
         let sound = StandIn::SOUND;
         let library = StandIn { spoil, ..sound };

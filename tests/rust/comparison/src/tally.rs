@@ -1,7 +1,25 @@
 //! How much was compared.
-use crate::{question::Question, request::Request, slots};
+use crate::{
+    question::Question,
+    request::Request,
+    slots::{self, EDGE, LINE, NOTE, PENDING},
+};
 use oracle::machine::{Answer, SPURIOUS};
 use std::{fmt, ops::AddAssign};
+
+/// Records that writes of ICPENDR may meet: which of these bits, and how they stand. The held ones are level with the line high, and stay as
+/// they are but for the note; the others are cleared.
+const MET: [(&str, u32, u32); 5] = [
+    ("held and pending", PENDING | LINE | EDGE, PENDING | LINE),
+    ("held and not pending", PENDING | LINE | EDGE, LINE),
+    ("held with a note", NOTE | LINE | EDGE, NOTE | LINE),
+    (
+        "edge with the line high",
+        PENDING | LINE | EDGE,
+        PENDING | LINE | EDGE,
+    ),
+    ("level with the line low", PENDING | LINE | EDGE, PENDING),
+];
 
 #[derive(Clone, Copy, Debug, Default)]
 pub struct Tally {
@@ -9,6 +27,8 @@ pub struct Tally {
     pub acknowledges: u64,
     /// Acknowledges by the binary point that the vCPU has.
     pub points: [u64; 8],
+    /// Records that writes of ICPENDR met, by their kind.
+    pub met: [u64; MET.len()],
     pub retirements: u64,
     pub wakes: u64,
     /// Answers by their refusal, 0 for none.
@@ -46,6 +66,21 @@ impl Tally {
         }
     }
 
+    /// What an accepted call met that clears pending; the words are those before it.
+    pub fn note_clears(&mut self, request: &Request, words: &[u32]) {
+        for (_, at) in slots::cleared(words, request) {
+            for ((_, bits, stand), count) in MET.iter().zip(&mut self.met) {
+                *count += u64::from(words[at] & bits == *stand);
+            }
+        }
+    }
+
+    /// The first kind of records that no write of ICPENDR met, if there is one.
+    pub fn missing_kind(&self) -> Option<&'static str> {
+        let mut kinds = MET.iter().zip(self.met);
+        kinds.find(|(_, count)| *count == 0).map(|(kind, _)| kind.0)
+    }
+
     /// The first binary point at which nothing was acknowledged, if there is one.
     pub fn missing_point(&self) -> Option<usize> {
         self.points.iter().position(|count| *count == 0)
@@ -69,6 +104,9 @@ impl AddAssign for Tally {
         for (point, count) in self.points.iter_mut().zip(other.points) {
             *point += count;
         }
+        for (kind, count) in self.met.iter_mut().zip(other.met) {
+            *kind += count;
+        }
         self.retirements += other.retirements;
         self.wakes += other.wakes;
         for (number, count) in self.refusals.iter_mut().zip(other.refusals) {
@@ -90,6 +128,7 @@ impl fmt::Display for Tally {
             calls,
             acknowledges,
             points,
+            met,
             retirements,
             wakes,
             refusals,
@@ -107,6 +146,10 @@ impl fmt::Display for Tally {
         )?;
         for (point, count) in points.iter().enumerate() {
             write!(f, " {point}: {count}")?;
+        }
+        write!(f, "; ICPENDR met")?;
+        for ((kind, ..), count) in MET.iter().zip(met) {
+            write!(f, " {kind}: {count}")?;
         }
         write!(f, "; refusals")?;
         for (number, count) in refusals.iter().enumerate().skip(1) {

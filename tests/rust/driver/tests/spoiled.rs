@@ -4,7 +4,7 @@ use comparison::{
     question::Question,
     request::Request,
     run,
-    wrong::{CONTROLLERS, Controller, Spoil},
+    wrong::{Controller, Spoil, controllers},
 };
 use driver::Vgic;
 
@@ -69,7 +69,7 @@ impl Library for Silent {
     }
 }
 
-/// The library, with request Two's rule taken wrong.
+/// The library, with request Two's rule or request Four's taken wrong.
 struct Wrong(Spoil);
 
 impl Library for Wrong {
@@ -98,12 +98,12 @@ impl Library for Wrong {
 }
 
 #[test]
-fn a_wrong_binary_point_is_found() {
+fn a_request_taken_wrong_is_found() {
     for Controller {
         what,
         at_most,
         spoil,
-    } in CONTROLLERS
+    } in controllers()
     {
         let library = Wrong(spoil);
         let case = run(&library, 1, 50_000).expect_err(what).shrunk(&library);

@@ -1,4 +1,5 @@
-//! Prints what every transition of interrupt.rs gives on every record state, in the form of the Rattle program `interrupt_states`.
+//! Prints what every transition of interrupt.rs, with its one patch, gives on every record state, in the form of the Rattle program
+//! `interrupt_states`.
 use std::io::{self, BufWriter, Write};
 
 // What interrupt.rs takes from its crate's root.

@@ -1,8 +1,9 @@
-//! One interrupt: its record, and the vCPU that has it in flight.
+//! One interrupt: its record, and the vCPU that has it in flight. The transitions are interrupt.rs's own but for `set_pending`, which
+//! request Four has depart from it: the file's is not called.
 use crate::{IntId, TriggerMode};
 use types::Parts;
 
-#[allow(dead_code)] // routes, and what only other files of arm_vgic call
+#[allow(dead_code)] // routes, `set_pending`, and what only other files of arm_vgic call
 mod file {
     include!(concat!(env!("OUT_DIR"), "/interrupt_root.rs"));
     pub(crate) use interrupt::{InterruptRecord, access};
@@ -56,6 +57,20 @@ impl Record {
 
     pub(crate) fn offered(&self) -> bool {
         self.file.enabled() && self.file.pending() && !self.file.active()
+    }
+
+    /// "Clearing pending on a level interrupt with its line asserted must leave the pending bit as it stands; the redelivery note is still
+    /// cleared."
+    pub(crate) fn set_pending(&mut self, pending: bool) {
+        let mut parts = self.parts();
+        let held = !self.is_edge() && parts.line_asserted;
+        if pending {
+            parts.pending = true;
+        } else {
+            parts.pending = parts.pending && held;
+            parts.redelivery_pending = false;
+        }
+        self.file = access::make(&parts);
     }
 
     pub fn parts(&self) -> Parts {

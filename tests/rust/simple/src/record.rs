@@ -1,4 +1,4 @@
-//! One interrupt, and its transitions as interrupt.rs has them.
+//! One interrupt, and its transitions: as interrupt.rs has them, but for the held line of request Four.
 
 #[derive(Clone, Copy, Debug, PartialEq, Eq)]
 pub enum Trigger {
@@ -54,8 +54,11 @@ impl Record {
         }
     }
 
+    /// Clearing leaves the bit as it stands while a level is held.
     pub fn set_pending(&mut self, pending: bool) {
-        self.pending = pending;
+        if pending || !self.held() {
+            self.pending = pending;
+        }
         if !pending {
             self.redelivery_pending = false;
         }
@@ -77,7 +80,7 @@ impl Record {
         self.owner = None;
     }
 
-    /// A held level pends the interrupt again when its service ends.
+    /// A held level stays pending when it is cleared, and pends the interrupt again when its service ends.
     fn held(&self) -> bool {
         self.trigger == Trigger::Level && self.line_asserted
     }

@@ -28,11 +28,41 @@ pub fn with_access(text: &str, below: &Path) -> String {
     format!("{text}\n#[path = {below:?}]\npub(crate) mod access;\n")
 }
 
-/// Makes interrupt.rs a module: its text as it is, and below it our `access`, which makes and reads a record's private fields.
+/// Makes interrupt.rs a module: its text as it lies, and below it our `access`, which makes and reads a record's private fields.
 pub fn interrupt_module() {
+    module_of_interrupt(&read("src/interrupt.rs"));
+}
+
+/// The same with its one patch, request Four's; the build stops where the file reads otherwise there.
+pub fn patched_interrupt_module() {
+    let text = patched_interrupt(&read("src/interrupt.rs"))
+        .unwrap_or_else(|why| panic!("interrupt.rs is not the file that the patch is for: {why}"));
+    module_of_interrupt(&text);
+}
+
+fn module_of_interrupt(text: &str) {
     let below = Path::new(env!("CARGO_MANIFEST_DIR")).join("../interrupt/src/access.rs");
-    let text = read("src/interrupt.rs");
-    module("interrupt", &with_access(&text, &below));
+    module("interrupt", &with_access(text, &below));
+}
+
+/// The third departure from the Rust: document 02's request Four. The other two are in v2.rs, see the oracle's build.rs.
+const HELD_LINE: &str = r#"        // PATCH 3 of 3: document 02 (Four) and IHI 0048, clearing pending on a held level line: the bit stays, the note goes.
+        if !pending && self.trigger == TriggerMode::Level && self.line_asserted {
+            self.redelivery_pending = false;
+            return;
+        }
+"#;
+
+/// All of `set_pending`, before which the patch goes: it does itself what this does beside the pending bit.
+const SET_PENDING: &str = r#"        self.pending = pending;
+        if !pending {
+            self.redelivery_pending = false;
+        }
+    }
+"#;
+
+fn patched_interrupt(text: &str) -> Result<String, String> {
+    patched(text, "set_pending", SET_PENDING, HELD_LINE)
 }
 
 /// `text` with `lines` put before its only occurrence of `place`, which must stand in the function `name`.
@@ -52,7 +82,7 @@ pub fn patched(text: &str, name: &str, place: &str, lines: &str) -> Result<Strin
 
 #[cfg(test)]
 mod tests {
-    use super::patched;
+    use super::{HELD_LINE, SET_PENDING, patched, patched_interrupt};
 
     const TEXT: &str = "fn a() {\n    x();\n}\n\nfn b() {\n    y();\n    z();\n}\n";
 
@@ -75,6 +105,22 @@ mod tests {
                 patched(TEXT, name, place, "// ours\n").is_err(),
                 "{name} {place}"
             );
+        }
+    }
+
+    #[test]
+    fn a_record_is_patched_only_as_it_lies() {
+        let record = |body: &str| format!("    fn pending() {{}}\n    fn set_pending() {{\n{body}");
+        let whole = record(&format!("{HELD_LINE}{SET_PENDING}"));
+        assert_eq!(patched_interrupt(&record(SET_PENDING)), Ok(whole));
+        for other in [
+            record(&SET_PENDING.replace("if !pending", "if pending")),
+            record(&SET_PENDING.replace("    }\n", "    }\n    more();\n")),
+            record(&format!("{SET_PENDING}    fn other() {{\n{SET_PENDING}")),
+            record(&format!("    }}\n    fn other() {{\n{SET_PENDING}")),
+            SET_PENDING.into(),
+        ] {
+            assert!(patched_interrupt(&other).is_err(), "{other}");
         }
     }
 }

@@ -85,7 +85,7 @@ impl Gic {
         self.sources[at] &= !(1 << lowest);
         if self.sources[at] != 0 {
             let slot = self.slot(v, id);
-            self.records[slot].file.set_pending(true);
+            self.records[slot].set_pending(true);
         }
         lowest
     }

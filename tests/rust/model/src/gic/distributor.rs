@@ -159,8 +159,8 @@ impl Gic {
                 Bit::Group => {}
                 Bit::SetEnable => r.file.set_enabled(true),
                 Bit::ClearEnable => r.file.set_enabled(false),
-                Bit::SetPend if id >= 16 => r.file.set_pending(true),
-                Bit::ClearPend if id >= 16 => r.file.set_pending(false),
+                Bit::SetPend if id >= 16 => r.set_pending(true),
+                Bit::ClearPend if id >= 16 => r.set_pending(false),
                 Bit::SetPend | Bit::ClearPend => {}
                 Bit::SetActive => r.file.set_active(true),
                 Bit::ClearActive => {
@@ -223,7 +223,7 @@ impl Gic {
         let at = self.source_slot(v, id);
         self.sources[at] = left;
         let slot = self.slot(v, id);
-        self.records[slot].file.set_pending(left != 0);
+        self.records[slot].set_pending(left != 0);
     }
 
     fn write_sgir(&mut self, sender: u64, value: u64) {
@@ -241,7 +241,7 @@ impl Gic {
                 let at = self.source_slot(t, id);
                 self.sources[at] |= 1 << sender;
                 let slot = self.slot(t, id);
-                self.records[slot].file.set_pending(true);
+                self.records[slot].set_pending(true);
             }
         }
     }

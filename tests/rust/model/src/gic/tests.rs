@@ -1,4 +1,6 @@
-//! Request Two's binary point, with answers worked out from its text.
+//! Request Two's binary point, with answers worked out from its text. Request Four's are in `held_line`.
+mod held_line;
+
 use super::*;
 use crate::{image, words};
 

@@ -1,9 +1,10 @@
 //! What no script from setup can show: the full stack, states that no history reaches, and the oracle's check of itself.
 use super::*;
 use crate::{
-    IntId, Priority, SgiId, controller::state::State, lines, redistributor::RedistributorState,
-    registers::Bank,
+    IntId, Priority, SgiId, TriggerMode, access, controller::state::State, lines,
+    redistributor::RedistributorState, registers::Bank,
 };
+use types::Parts;
 
 /// One vCPU, SPIs 32 to 39, everything on; then `change` does to the state what no call would.
 fn changed(change: impl FnOnce(&mut State)) -> Machine {
@@ -103,6 +104,72 @@ fn an_sgi_pending_without_a_source_answers_source_0() {
         let mut machine = changed(pending);
         answer(&mut machine, line);
         assert_eq!(answer(&mut machine, "d 0 512 4"), left, "{line}");
+    }
+}
+
+/// SGIs pend by their sources, and their lines are low: "whoever else clears pending" shows only where the state is not lawful.
+#[test]
+fn a_held_level_sgi_stays_pending_without_a_source() {
+    for (edge, line, left) in [(false, true, 8), (false, false, 0), (true, true, 0)] {
+        let mut machine = changed(|state| {
+            let sgi = SgiId::new(3).unwrap();
+            own(state).pend_sgi(GicVcpuId::new(0), sgi);
+            let record = &mut own(state).find_mut(3).unwrap().record;
+            if !edge {
+                record.set_trigger(TriggerMode::Level);
+            }
+            if line {
+                record.set_level(true);
+            }
+        });
+        answer(&mut machine, "D 0 3859 1 1");
+        assert_eq!(answer(&mut machine, "d 0 3856 4"), "0 0 0 1023");
+        assert_eq!(
+            answer(&mut machine, "d 0 512 4"),
+            format!("0 {left} 0 1023")
+        );
+    }
+}
+
+/// The note goes, pending goes but from a held level, and nothing else changes, whatever the flags are.
+#[test]
+fn pending_is_cleared_as_request_four_says() {
+    let number = IntId::new(33).unwrap();
+    for bits in 0..128 {
+        let set = |place: u32| bits >> place & 1 == 1;
+        let before = Parts {
+            intid: number,
+            enabled: set(0),
+            pending: set(1),
+            active: set(2),
+            inflight: set(3),
+            redelivery_pending: set(4),
+            line_asserted: set(5),
+            priority: Priority(7),
+            trigger: if set(6) {
+                TriggerMode::Edge
+            } else {
+                TriggerMode::Level
+            },
+            cpu_target_mask: Some(1),
+        };
+        let machine = changed(|state| {
+            state.distributor.find_mut(33).unwrap().record = access::make(&before);
+        });
+        perform(
+            machine.controller().unwrap(),
+            &lines::parse(b"D 0 644 4 2").unwrap(),
+        )
+        .unwrap();
+        let state = machine.controller().unwrap().state();
+        let held = set(5) && !set(6);
+        let expected = Parts {
+            pending: held && set(1),
+            redelivery_pending: false,
+            ..before
+        };
+        let after = access::parts(&state.distributor.find(33).unwrap().record);
+        assert_eq!(after, expected);
     }
 }
 

@@ -19,6 +19,8 @@ const STEPS: &[(u64, Step)] = &[
     (8, deactivate),
     (16, ring),
     (16, input),
+    (4, clear),
+    (4, clear_served),
     (5, look),
     (4, mask),
     (4, regroup),
@@ -85,13 +87,18 @@ fn acknowledge(scene: &Scene, random: &mut Random) -> Vec<Call> {
 /// Something more urgent comes to a vCPU that is serving, and is taken.
 fn nest(scene: &Scene, random: &mut Random) -> Vec<Call> {
     let (vcpu, number) = (scene.one_with(&scene.held, random), scene.interrupt(random));
-    let depth = scene.held[vcpu as usize].len() as u64;
-    let priority = 0x80 >> depth.min(8);
     vec![
-        write(Distributor, vcpu, GICD_IPRIORITYR + number, Byte, priority),
+        urge(scene, vcpu, number),
         pend(vcpu, number),
         read(CpuInterface, vcpu, GICC_IAR, Dword),
     ]
+}
+
+/// Makes an interrupt more urgent than what this vCPU serves.
+fn urge(scene: &Scene, vcpu: u64, number: u64) -> Call {
+    let depth = scene.held[vcpu as usize].len() as u64;
+    let priority = 0x80 >> depth.min(8);
+    write(Distributor, vcpu, GICD_IPRIORITYR + number, Byte, priority)
 }
 
 /// EOIR: mostly of the newest, at times of an older one, or of what nobody serves.
@@ -150,9 +157,8 @@ fn ring(scene: &Scene, random: &mut Random) -> Vec<Call> {
         .collect()
 }
 
-/// Device inputs, half of them at what is being served.
-fn input(scene: &Scene, random: &mut Random) -> Vec<Call> {
-    let vcpu = scene.vcpu(random);
+/// An interrupt that a device has, half of the time one that is being served.
+fn device(scene: &Scene, vcpu: u64, random: &mut Random) -> Input {
     let served = scene.held[vcpu as usize]
         .iter()
         .filter(|it| **it >= 16)
@@ -163,7 +169,13 @@ fn input(scene: &Scene, random: &mut Random) -> Vec<Call> {
     } else {
         random.pick(&served)
     };
-    let input = Input { vcpu, number };
+    Input { vcpu, number }
+}
+
+/// Device inputs.
+fn input(scene: &Scene, random: &mut Random) -> Vec<Call> {
+    let vcpu = scene.vcpu(random);
+    let input = device(scene, vcpu, random);
     let line = |asserted| Call::SetLevel(input, asserted);
     match random.below(10) {
         0..4 => vec![Call::Pulse(input)],
@@ -171,6 +183,56 @@ fn input(scene: &Scene, random: &mut Random) -> Vec<Call> {
         7..9 => vec![line(false)],
         _ => vec![line(true), line(false)],
     }
+}
+
+/// A driver clears pending, mostly while its device holds the line: of level ones and edge ones, waiting, served, or rung again while served.
+fn clear(scene: &Scene, random: &mut Random) -> Vec<Call> {
+    let vcpu = scene.vcpu(random);
+    let input = device(scene, vcpu, random);
+    let line = |asserted| Call::SetLevel(input, asserted);
+    let mut calls = match random.below(8) {
+        0..3 => vec![line(true)],
+        3 => vec![line(false), line(true)],
+        4 => vec![line(false), bit(GICD_ISPENDR, input)],
+        5 => vec![line(false), Call::Pulse(input)],
+        _ => vec![],
+    };
+    calls.extend(clear_and_look(input, random));
+    calls
+}
+
+/// A driver clears pending of what it has just been given, the line being high.
+fn clear_served(scene: &Scene, random: &mut Random) -> Vec<Call> {
+    let (vcpu, number) = (scene.vcpu(random), random.pick(&scene.inputs));
+    let input = Input { vcpu, number };
+    let mut calls = vec![
+        bit(GICD_ISENABLER, input),
+        write(Distributor, vcpu, GICD_ITARGETSR + number, Byte, 1 << vcpu),
+        urge(scene, vcpu, number),
+        Call::SetLevel(input, true),
+        read(CpuInterface, vcpu, GICC_IAR, Dword),
+    ];
+    calls.extend(clear_and_look(input, random));
+    calls
+}
+
+/// Clears pending, at times of the whole word, and looks at what is left.
+fn clear_and_look(input: Input, random: &mut Random) -> Vec<Call> {
+    let (vcpu, word) = (input.vcpu, input.number / 32 * 4);
+    let one = bit(GICD_ICPENDR, input);
+    let all = write(Distributor, vcpu, GICD_ICPENDR + word, Dword, u64::MAX);
+    let pending = read(Distributor, vcpu, GICD_ISPENDR + word, Dword);
+    let given = read(CpuInterface, vcpu, GICC_IAR, Dword);
+    vec![
+        random.pick(&[one, one, one, all]),
+        random.pick(&[pending, given]),
+    ]
+}
+
+/// A write of an interrupt's bit in a register of this bank.
+fn bit(bank: u64, Input { vcpu, number }: Input) -> Call {
+    let offset = bank + number / 32 * 4;
+    write(Distributor, vcpu, offset, Dword, 1 << (number % 32))
 }
 
 fn look(scene: &Scene, random: &mut Random) -> Vec<Call> {
@@ -310,8 +372,7 @@ fn cancel(scene: &Scene, random: &mut Random) -> Vec<Call> {
     let Some(number) = scene.held[server].last().map(|it| it % 1024) else {
         return vec![];
     };
-    let offset = GICD_ICACTIVER + number / 32 * 4;
-    vec![write(Distributor, vcpu, offset, Dword, 1 << (number % 32))]
+    vec![bit(GICD_ICACTIVER, Input { vcpu, number })]
 }
 
 /// CPENDSGIR and SPENDSGIR, also with zero bytes and with sources that do not exist.
@@ -396,11 +457,10 @@ fn sweep(scene: &Scene, random: &mut Random) -> Vec<Call> {
 fn revive(scene: &Scene, random: &mut Random) -> Vec<Call> {
     let (vcpu, number) = (scene.vcpu(random), scene.interrupt(random));
     let control = random.pick(&[1, 1, 0x201]);
-    let enable = GICD_ISENABLER + number / 32 * 4;
     vec![
         write(Distributor, vcpu, GICD_CTLR, Dword, 1),
         write(CpuInterface, vcpu, GICC_CTLR, Dword, control),
         write(CpuInterface, vcpu, GICC_PMR, Dword, 255),
-        write(Distributor, vcpu, enable, Dword, 1 << (number % 32)),
+        bit(GICD_ISENABLER, Input { vcpu, number }),
     ]
 }

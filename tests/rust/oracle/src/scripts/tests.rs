@@ -3,14 +3,15 @@ use super::Scripts;
 use crate::{
     AccessWidth, GicV3Controller, GicVcpuId,
     RegisterRegion::{self, CpuInterface, Distributor},
-    SpiId, access, invariants, lines,
-    machine::{Answer, Call, SPURIOUS},
+    SpiId, TriggerMode, access, invariants, lines,
+    machine::{Access, Answer, Call, SPURIOUS},
     redistributor::RedistributorState,
     register::*,
     registers::{Bank, Interrupt},
     scripts::steps::{CPU_INTERFACE, DISTRIBUTOR},
 };
 use std::collections::BTreeMap;
+use types::Parts;
 
 pub const SEEDS: std::ops::Range<u64> = 0..4;
 pub const LINES: usize = 50_000;
@@ -211,6 +212,73 @@ fn note_acknowledge(tally: &mut Tally, gic: &GicV3Controller, vcpu: usize, answe
         if best.is_some_and(|(_, best)| best >= running && best < priority(newest)) {
             tally.note(format!("held back by the group served at {point}"));
         }
+    }
+}
+
+#[test]
+fn pending_is_cleared_of_every_kind() {
+    let mut tally = Tally::default();
+    let mut before: Option<GicV3Controller> = None;
+    watch(|_, answered, gic| {
+        if let (Some((Call::Write(at, value), answer)), Some(before)) = (answered, &before)
+            && answer.refusal == 0
+            && at.region == Distributor
+            && (GICD_ICPENDR..GICD_ISACTIVER).contains(&at.offset)
+        {
+            note_clears(&mut tally, before, &at, value);
+        }
+        before = gic.cloned();
+    });
+    for kind in ["a PPI", "an SPI"] {
+        for (what, least) in [
+            ("held, pending", 300),
+            ("held, pending, served", 80),
+            ("held, redelivery noted", 50),
+            ("held, not pending", 30),
+            ("edge, line high, pending", 200),
+            ("level, line low, pending", 250),
+        ] {
+            tally.expect(&format!("{kind} {what}"), least);
+        }
+    }
+}
+
+/// What a write of ICPENDR finds at the numbers that it names.
+fn note_clears(tally: &mut Tally, before: &GicV3Controller, at: &Access, value: u64) {
+    let state = before.state();
+    let first = ((at.offset - GICD_ICPENDR) * 8) as u32;
+    for number in (first..first + 32).filter(|number| value >> (number - first) & 1 == 1) {
+        let (kind, it) = match number {
+            0..16 => continue,
+            16..32 => {
+                let (_, own) = &state.redistributors[at.vcpu as usize];
+                ("a PPI", own.find(number))
+            }
+            _ => ("an SPI", state.distributor.find(number)),
+        };
+        if let Some(it) = it {
+            note_cleared(tally, kind, &access::parts(&it.record));
+        }
+    }
+}
+
+fn note_cleared(tally: &mut Tally, kind: &str, parts: &Parts) {
+    let level = parts.trigger == TriggerMode::Level;
+    let mut note = |what: &str| tally.note(format!("{kind} {what}"));
+    match (parts.line_asserted, parts.pending) {
+        (true, false) if level => note("held, not pending"),
+        (true, true) if level => {
+            note("held, pending");
+            if parts.active {
+                note("held, pending, served");
+            }
+            if parts.redelivery_pending {
+                note("held, redelivery noted");
+            }
+        }
+        (true, true) => note("edge, line high, pending"),
+        (false, true) if level => note("level, line low, pending"),
+        _ => {}
     }
 }
 

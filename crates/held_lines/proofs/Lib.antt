@@ -1,0 +1,2 @@
+-- The user's story, proved.
+pub mod Silence
