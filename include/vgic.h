@@ -96,7 +96,7 @@ vgic_answer vgic_setup(uint32_t *words, size_t length, uint64_t count, uint64_t 
 #define VGIC_GICD_ISENABLER 0x100u  /* set enables */
 #define VGIC_GICD_ICENABLER 0x180u  /* clear enables */
 #define VGIC_GICD_ISPENDR 0x200u    /* set pending */
-#define VGIC_GICD_ICPENDR 0x280u    /* clear pending */
+#define VGIC_GICD_ICPENDR 0x280u    /* clear pending; a level interrupt with its line up stays as it is */
 #define VGIC_GICD_ISACTIVER 0x300u  /* set active */
 #define VGIC_GICD_ICACTIVER 0x380u  /* clear active */
 #define VGIC_GICD_IPRIORITYR 0x400u /* priorities, a byte for each interrupt */

@@ -33,17 +33,17 @@ pub record HeldLine : Type 0 where
 abbrev pub lineRises : HeldLine → Outcome
 lineRises h = called (SetLevel (h .vcpu) (h .interrupt) true) (h .words)
 
-abbrev pub waitsFirst : HeldLine → List ℕ
-waitsFirst h = run (h .meanwhile₁) (lineRises h .state)
+abbrev pub lineWaits : HeldLine → List ℕ
+lineWaits h = run (h .meanwhile₁) (lineRises h .state)
 
-abbrev pub isServed : HeldLine → List ℕ
-isServed h = run (h .meanwhile₂) (waitsFirst h)
+abbrev pub lineServed : HeldLine → List ℕ
+lineServed h = run (h .meanwhile₂) (lineWaits h)
 
-abbrev pub isRetired : HeldLine → Outcome
-isRetired h = called (WriteCpuInterface (h .retirer) (h .offset) (h .width) (h .writes)) (isServed h)
+abbrev pub lineRetires : HeldLine → Outcome
+lineRetires h = called (WriteCpuInterface (h .retirer) (h .offset) (h .width) (h .writes)) (lineServed h)
 
-abbrev pub waitsAgain : HeldLine → List ℕ
-waitsAgain h = run (h .meanwhile₃) (isRetired h .state)
+abbrev pub lineWaitsAgain : HeldLine → List ℕ
+lineWaitsAgain h = run (h .meanwhile₃) (lineRetires h .state)
 
 -- the interrupt is level; no call lets its line go: no setup or load is accepted, its device does not lower it, and it is not made edge; and while it
 -- waits no call gives it. Clears of its pending bit may be among the calls wherever they like (`a-clear-lets-nothing-go`).
@@ -53,10 +53,10 @@ pub record Holding (h : HeldLine) : Type 0 where
   pub no-sgi : 16 ≤ h .interrupt
   pub level : isLevel (recordAt (h .shape) (h .vcpu) (h .interrupt) (h .words) .trigger) ≡ true
   pub held₁ : never (λ s. letsGoOrGives (h .vcpu) (h .interrupt)) (h .meanwhile₁) (lineRises h .state) ≡ true
-  pub held₂ : never (λ s. letsGo (h .vcpu) (h .interrupt)) (h .meanwhile₂) (waitsFirst h) ≡ true
+  pub held₂ : never (λ s. letsGo (h .vcpu) (h .interrupt)) (h .meanwhile₂) (lineWaits h) ≡ true
   pub its-retirer : meets (h .vcpu) (h .interrupt) (h .retirer) ≡ true
-  pub retired : isRetired h .retired ≡ h .interrupt
-  pub held₃ : never (λ s. letsGoOrGives (h .vcpu) (h .interrupt)) (h .meanwhile₃) (isRetired h .state) ≡ true
+  pub retired : lineRetires h .retired ≡ h .interrupt
+  pub held₃ : never (λ s. letsGoOrGives (h .vcpu) (h .interrupt)) (h .meanwhile₃) (lineRetires h .state) ≡ true
 
 -- a vCPU that can take the interrupt
 pub record Reader (h : HeldLine) (reader : ℕ) (s : List ℕ) : Type 0 where
@@ -79,10 +79,10 @@ WakesReaders h before o = (reader : ℕ) → Reader h reader (o .state) → told
 pub record NeverSilent (h : HeldLine) : Type 0 where
   pub rise-accepted : lineRises h .refusal ≡ 0
   pub rise-wakes : WakesReaders h (h .words) (lineRises h)
-  pub waits : Heard h (waitsFirst h)
+  pub waits : Heard h (lineWaits h)
   -- retired, it is neither active nor in flight, and pending again
-  pub idle : recordAt (h .shape) (h .vcpu) (h .interrupt) (isRetired h .state) .active ≡ false
-  pub not-in-flight : recordAt (h .shape) (h .vcpu) (h .interrupt) (isRetired h .state) .inflight ≡ false
-  pub pends-again : Heard h (isRetired h .state)
-  pub retirement-wakes : WakesReaders h (isServed h) (isRetired h)
-  pub still-waits : Heard h (waitsAgain h)
+  pub idle : recordAt (h .shape) (h .vcpu) (h .interrupt) (lineRetires h .state) .active ≡ false
+  pub not-in-flight : recordAt (h .shape) (h .vcpu) (h .interrupt) (lineRetires h .state) .inflight ≡ false
+  pub pends-again : Heard h (lineRetires h .state)
+  pub retirement-wakes : WakesReaders h (lineServed h) (lineRetires h)
+  pub still-waits : Heard h (lineWaitsAgain h)

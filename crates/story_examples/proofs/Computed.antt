@@ -29,7 +29,7 @@ use Rattle.corners.proofs.Started.{started, setup-started, computing}
 use Rattle.stories.specs.Stories.{Takes, ahead, NoneAhead, TwoRings, bothWait, firstRead, oneWaits, secondRead, Sleeping, PulseInFlight, turn, readAgain, InService}
 use Rattle.handlers.specs.Handlers.{Handler, nextRead, runningRead, later, Runs, Foremost}
 use Rattle.handlers.proofs.Shielded.{a-handler-is-shielded}
-use Rattle.held_lines.specs.HeldLines.{HeldLine, waitsFirst, isRetired, waitsAgain, Holding}
+use Rattle.held_lines.specs.HeldLines.{HeldLine, lineWaits, lineRetires, lineWaitsAgain, Holding}
 use Rattle.held_lines.proofs.Silence.{the-ring-is-never-silent}
 use Rattle.stories.proofs.TwoRings.{both-given}
 use Rattle.stories.proofs.PulseInFlight.{given-again}
@@ -273,37 +273,37 @@ line-holds = record {
 abbrev its : HeldLine
 its = heldLineFrom lineWords
 
-first-takes : Takes (shaped 2 34) 1 33 (waitsFirst its)
+first-takes : Takes (shaped 2 34) 1 33 (lineWaits its)
 unfolding run zeros beforeLine heldLineFrom computing
-first-takes = can-take (shaped 2 34) 1 33 (waitsFirst its) refl
+first-takes = can-take (shaped 2 34) 1 33 (lineWaits its) refl
 
-again-takes : Takes (shaped 2 34) 1 33 (waitsAgain its)
+again-takes : Takes (shaped 2 34) 1 33 (lineWaitsAgain its)
 unfolding run zeros beforeLine heldLineFrom computing
-again-takes = can-take (shaped 2 34) 1 33 (waitsAgain its) refl
+again-takes = can-take (shaped 2 34) 1 33 (lineWaitsAgain its) refl
 
-line-first : tested (shaped 2 34) 1 33 (waitsFirst its) ≡ true
+line-first : tested (shaped 2 34) 1 33 (lineWaits its) ≡ true
 unfolding run zeros beforeLine heldLineFrom computing
 line-first = refl
 
-line-again : tested (shaped 2 34) 1 33 (waitsAgain its) ≡ true
+line-again : tested (shaped 2 34) 1 33 (lineWaitsAgain its) ≡ true
 unfolding run zeros beforeLine heldLineFrom computing
 line-again = refl
 
 -- what ISPENDR reads after the clears, what vCPU 1 is given, whom its EOIR wakes, and what it is given after one more clear
 pub record RingsOn (h : HeldLine) : Type 0 where
-  pub pending : called (ReadDistributor 0 0x204 Dword) (waitsFirst h) .value ≡ 0x2
-  pub given : called (iarRead 1) (waitsFirst h) .value ≡ 33
-  pub wakes : isRetired h .wake ≡ 0x2
-  pub given-again : called (iarRead 1) (waitsAgain h) .value ≡ 33
+  pub pending : called (ReadDistributor 0 0x204 Dword) (lineWaits h) .value ≡ 0x2
+  pub given : called (iarRead 1) (lineWaits h) .value ≡ 33
+  pub wakes : lineRetires h .wake ≡ 0x2
+  pub given-again : called (iarRead 1) (lineWaitsAgain h) .value ≡ 33
 
 line-at : RingsOn its
 unfolding run zeros beforeLine heldLineFrom computing
 line-at = record {
   pending = refl;
-  given = the-ring-is-never-silent its line-holds .waits .given 1 (record { exists = omega arith; its-reader = refl; takes = first-takes }) (none-ahead (shaped 2 34) 1 33 (waitsFirst its) line-first);
+  given = the-ring-is-never-silent its line-holds .waits .given 1 (record { exists = omega arith; its-reader = refl; takes = first-takes }) (none-ahead (shaped 2 34) 1 33 (lineWaits its) line-first);
   wakes = refl;
   given-again =
-      the-ring-is-never-silent its line-holds .still-waits .given 1 (record { exists = omega arith; its-reader = refl; takes = again-takes }) (none-ahead (shaped 2 34) 1 33 (waitsAgain its) line-again);
+      the-ring-is-never-silent its line-holds .still-waits .given 1 (record { exists = omega arith; its-reader = refl; takes = again-takes }) (none-ahead (shaped 2 34) 1 33 (lineWaitsAgain its) line-again);
 }
 
 line-words : lineWords ≡ afterCalls 2 34 beforeLine

@@ -2,7 +2,7 @@
 use mathlib.Core.Path.{_≡_, refl, sym, ap, subst, _∙_}
 use mathlib.Core.Bool.{Bool, true, false, not, _&&_, and-false, true≢false, false≢true}
 use mathlib.Core.List.{List}
-use Prim.Native.Nat.{ℕ, _-_, _≤_, _<_}
+use Prim.Native.Nat.{ℕ, _-_, _≤_}
 use native.Mathlib.Omega.{arith}
 use lib.Dec.{eqb}
 use borrow.Author.Tests.{eqb-true, ne-eqb, not-true}
@@ -12,7 +12,6 @@ use Rattle.word.specs.Fields.{fieldAt}
 use Rattle.word.specs.Word.{recordOf}
 use Rattle.register.specs.declared.frame.AccessWidth.{AccessWidth}
 use Rattle.register.specs.declared.ranges.BitRegister.the-variants.{Icpendr}
-use Rattle.register.specs.declared.ranges.Class.the-variants.{Bits}
 use Rattle.register.specs.declared.distributor.Place.{Place}
 use Rattle.register.specs.declared.distributor.DistributorAccess.the-variants as distributor
 use Rattle.state.specs.declared.layout.Shape.{Shape}
@@ -24,8 +23,7 @@ use Rattle.select.proofs.Meaning.{candidate-idle, best-is}
 use Rattle.acknowledge.specs.Acknowledge.{givenRecord, given}
 use Rattle.acknowledge.proofs.Offers.{offer-is}
 use Rattle.delivery.proofs.Given.{given-record}
-use Rattle.places.specs.Places.{writePlaceLooksUp, writePlace, Located}
-use Rattle.places.proofs.Fits.{private-word, bit-word}
+use Rattle.places.specs.Places.{writePlace, Located}
 use Rattle.lawful.specs.Lawful.{OrderlyRecord, Controls}
 use Rattle.moves.specs.Moves as moves
 use Rattle.moves.specs.Moves.{Giving}
@@ -36,10 +34,11 @@ use Rattle.input.specs.declared.Signal.{Signal}
 use Rattle.input.specs.declared.Signal.the-variants.{Level, Edge}
 use Rattle.input.specs.Input.{signalled}
 use Rattle.history.specs.History.{Call, isStart, called}
-use Rattle.waiting.specs.Waiting.{pends, meets, isClass, among, clearsPendingAt, lowers, pendingTaker, takesPending}
+use Rattle.waiting.specs.Waiting.{pends, meets, clearsPendingAt, lowers, pendingTaker, takesPending}
+use Rattle.waiting.proofs.BitWrites.{hit-class, hit-run, hit-field, hit-found, hit-word}
 use Rattle.waiting.proofs.Clearing.{cleared-pends}
 use Rattle.waiting.proofs.Going.{Goes, call-takes}
-use Rattle.waiting.proofs.Keeping.{is-class, among-is, handedOut}
+use Rattle.waiting.proofs.Keeping.{handedOut}
 use Rattle.waiting.proofs.RecordMoves.{met-slot, met-there}
 
 -- what a falling line and an acknowledge do to a record
@@ -54,36 +53,6 @@ handed v r = refl
 
 -- at the vCPU u that makes the call
 module _ (shape : Shape) (n : ℕ) (past : 16 ≤ n) (s : List ℕ) (h : Controls shape s) (u : ℕ) (there : RecordThere shape u n) where
-  -- ICPENDR
-  module _ (place : Place) (width : AccessWidth) (value : ℕ) (clears : clearsPendingAt n (distributor.At place) value ≡ true) (located : Located place width) where
-    abbrev first : ℕ
-    first = place .first .0
-
-    abbrev field : Bool
-    field = eqb (fieldAt 1 (n - first) value) 1
-
-    front : (isClass (Bits Icpendr) (place .class) && among n first 32) ≡ true
-    front = left-true (isClass (Bits Icpendr) (place .class) && among n first 32) field clears
-
-    is : place .class ≡ Bits Icpendr
-    is = is-class (Bits Icpendr) (place .class) (left-true (isClass (Bits Icpendr) (place .class)) (among n first 32) front)
-
-    run : among n first 32 ≡ true
-    run = right-true (isClass (Bits Icpendr) (place .class)) (among n first 32) front
-
-    own-private : place .private ≡ true → u < shape .count
-    own-private q = there .banked (omega (arith, private-word shape u place width s (h .lawful .in-range .state) located Icpendr is q, among-is n first 32 run))
-
-    write-found : writePlaceLooksUp (place .class) (place .private) value ≡ true → u < shape .count
-    write-found q = own-private (rw is at q)
-
-    -- as any vCPU v meets it
-    write-takes : (v : ℕ) → RecordThere shape v n → meets v n u ≡ true → held (recordAt shape v n s) ≡ false → pends shape v n (writePlace shape u place width value s) ≡ false
-    write-takes v its by low =
-        rw is
-        (cleared-pends shape v n its past u first value s (bit-word shape u place width s (h .lawful .in-range .state) located Icpendr is own-private)
-        ∙ simp (by, run, right-true (isClass (Bits Icpendr) (place .class) && among n first 32) field clears, low, and-false))
-
   -- a line that falls
   signal-takes : (signal : Signal) → lowers signal (recordAt shape u n s) ≡ true → pends shape u n (changed shape u n (signalled signal) s) ≡ false
   signal-takes (Level asserted) e =
@@ -122,15 +91,31 @@ module _ (shape : Shape) (v n : ℕ) (there : RecordThere shape v n) (past : 16 
       subst (λ (t : Slot). lowers signal (recordOf (wordAt shape t s)) ≡ true) (met-slot v n u by) (right-true (eqb m n) (lowers signal (recordAt shape v n s)) e),
     )
 
+    -- ICPENDR, of one that is not held
+    cleared : (place : Place) (value : ℕ) → (clearsPendingAt n (distributor.At place) value && not (held (recordAt shape v n s))) ≡ true
+        → (clearsPendingAt n (distributor.At place) value ≡ true) × (held (recordAt shape v n s) ≡ false)
+    cleared place value e = (
+      left-true (clearsPendingAt n (distributor.At place) value) (not (held (recordAt shape v n s))) e,
+      not-true (held (recordAt shape v n s)) (right-true (clearsPendingAt n (distributor.At place) value) (not (held (recordAt shape v n s))) e),
+    )
+
+    write-takes : (u : ℕ) → meets v n u ≡ true → (place : Place) (width : AccessWidth) (value : ℕ) → clearsPendingAt n (distributor.At place) value ≡ true
+        → held (recordAt shape v n s) ≡ false → Located place width → pends shape v n (writePlace shape u place width value s) ≡ false
+    write-takes u by place width value clears low located =
+        let set : Bool = eqb (fieldAt 1 (n - place .first .0) value) 1 in
+        let own = met-there v n u by there in
+        let word = hit-word shape Icpendr n s (h .lawful .in-range .state) u own place width set clears located in
+        rw (hit-class shape Icpendr n s (h .lawful .in-range .state) u own place width set clears located)
+        (cleared-pends shape v n there past u (place .first .0) value s word
+        ∙ simp (by, hit-run shape Icpendr n s (h .lawful .in-range .state) u own place width set clears located, hit-field shape Icpendr n s (h .lawful .in-range .state) u own place width set clears located, low, and-false))
+
     pending-going : Goes shape s (pendingTaker shape v n s) (λ r. pends shape v n r ≡ false)
     pending-going = record {
       some = ne-eqb 1023 n (λ p. omega (arith, p, there .numbered, h .lawful .in-range .state .limits .few-numbers));
       given-takes = λ u e by o answers. for-all u (given shape u e s) by (given-takes shape n past s h u (met-there v n u by there) e o (eqb-true (handedOut shape u e s) n answers));
       write-found = λ u place width value by takes located.
-          write-found shape n past s h u (met-there v n u by there) place width value (left-true (clearsPendingAt n (distributor.At place) value) (not (held (recordAt shape v n s))) takes) located;
-      write-takes = λ u place width value by takes at.
-          write-takes shape n past s h u (met-there v n u by there) place width value (left-true (clearsPendingAt n (distributor.At place) value) (not (held (recordAt shape v n s))) takes) (at .located) v there by
-          (not-true (held (recordAt shape v n s)) (right-true (clearsPendingAt n (distributor.At place) value) (not (held (recordAt shape v n s))) takes));
+          hit-found shape Icpendr n s (h .lawful .in-range .state) u (met-there v n u by there) place width (eqb (fieldAt 1 (n - place .first .0) value) 1) (cleared place value takes .0) located value;
+      write-takes = λ u place width value by takes at. write-takes u by place width value (cleared place value takes .0) (cleared place value takes .1) (at .located);
       nowhere-refused = λ r width value. refl;
       nowhere-private = λ width value. refl;
       no-pulse = λ m. and-false (eqb m n);

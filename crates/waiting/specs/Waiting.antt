@@ -81,7 +81,7 @@ abbrev pub lowers : Signal → InterruptRecord → Bool
 lowers (Level asserted) r = fallsIdle r asserted
 lowers Edge r = false
 
--- a device's line is low
+-- a device tells that its line is low
 abbrev pub isLow : Signal → Bool
 isLow (Level asserted) = not asserted
 isLow Edge = false

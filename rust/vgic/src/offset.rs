@@ -14,7 +14,7 @@ pub const GICD_ISENABLER: u64 = 0x100;
 pub const GICD_ICENABLER: u64 = 0x180;
 /// Set pending.
 pub const GICD_ISPENDR: u64 = 0x200;
-/// Clear pending.
+/// Clear pending; a level interrupt with its line up stays as it is.
 pub const GICD_ICPENDR: u64 = 0x280;
 /// Set active.
 pub const GICD_ISACTIVER: u64 = 0x300;
