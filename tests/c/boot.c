@@ -60,13 +60,18 @@ static void example(void)
     expect("c 9 24 4", interface_read(9, VGIC_GICC_HPPIR), "3 0 0 1023");
 }
 
-/* SPI 33 goes to vCPU 1: its line rises and wakes it, it is taken and ended, and as the line is held it comes again. */
+/*
+ * SPI 33 goes to vCPU 1: its line rises and wakes it, it is taken and ended, and as the line is held it comes again. A driver that clears its
+ * pending bit meanwhile, on vCPU 0, silences nothing.
+ */
 static void device(void)
 {
     expect("D 0 2081 1 2", vgic_write_v2_distributor(words, WORDS, 0, VGIC_GICD_ITARGETSR + 33, 1, 2), "0 0 0 1023");
     expect("D 0 260 4 2", distributor(0, VGIC_GICD_ISENABLER + 4, 2), "0 0 0 1023");
     expect("l 0 33 1", vgic_set_level(words, WORDS, 0, 33, true), "0 0 2 1023");
+    expect("D 0 644 4 2", distributor(0, VGIC_GICD_ICPENDR + 4, 2), "0 0 0 1023");
     expect("c 1 12 4", interface_read(1, VGIC_GICC_IAR), "0 33 0 1023");
+    expect("D 0 644 4 2", distributor(0, VGIC_GICD_ICPENDR + 4, 2), "0 0 0 1023");
     expect("C 1 16 4 33", interface(1, VGIC_GICC_EOIR, 33), "0 0 2 33");
     expect("l 0 33 0", vgic_set_level(words, WORDS, 0, 33, false), "0 0 0 1023");
     expect("p 0 33", vgic_pulse(words, WORDS, 0, 33), "0 0 2 1023");
