@@ -1,4 +1,4 @@
--- While a device holds its level line the interrupt is pending whenever it is not being served, whoever clears it. Assumes nothing.
+-- While a device holds its level line the interrupt is pending until it is given, and again once it is retired, whoever clears it. Assumes nothing.
 use mathlib.Core.Path.{_≡_, refl, sym, ap, _∙_}
 use mathlib.Core.Bool.{Bool, true, false, _||_, and-false}
 use mathlib.Core.List.{List}
