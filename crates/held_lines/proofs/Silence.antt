@@ -32,7 +32,7 @@ use Rattle.stories.proofs.Retiring.{retiring-record}
 use Rattle.stories.proofs.Turns.{is-number, number-given}
 use Rattle.levels.specs.Levels.{toldLevel}
 use Rattle.levels.proofs.Rises.{level-there, wakes-are-rises}
-use Rattle.held_lines.specs.HeldLines.{HeldLine, lineRises, lineWaits, lineServed, lineRetires, lineWaitsAgain, Holding, Reader, Heard, WakesReaders, NeverSilent}
+use Rattle.held_lines.specs.HeldLines.{HeldLine, lineRises, lineWaits, lineServed, lineRetires, lineWaitsAgain, Holding, Retirement, Reader, Heard, WakesReaders, HeardAgain, NeverSilent}
 
 -- "The virtio driver clears pending": a write to ICPENDR, whatever it says and whoever makes it
 pub a-clear-lets-nothing-go : (v n u offset : ℕ) (width : AccessWidth) (value : ℕ) (s : List ℕ) (place : Place) → locateDistributor offset width ≡ distributor.At place → place .class ≡ Bits Icpendr
@@ -91,29 +91,6 @@ module _ (h : HeldLine) (z : Holding h) where
   up₂ : Pending (lineWaits h)
   up₂ = a-held-line-stays-pending shape v n (z .there) (z .no-sgi) (h .meanwhile₁) (lineRises h .state) up₁ (z .held₁)
 
-  -- until it is retired
-  served-controls : Controls shape (lineServed h)
-  served-controls = line-controls shape v n (h .meanwhile₂) (lineWaits h) (up₂ .controls) (z .held₂)
-
-  served-up : held (recordAt shape v n (lineServed h)) ≡ true
-  served-up = a-line-stays-up shape v n (z .there) (z .no-sgi) (h .meanwhile₂) (lineWaits h) (up₂ .controls) (up₂ .line) (z .held₂)
-
-  retired : recordAt shape v n (lineRetires h .state) ≡ retire (recordAt shape v n (lineServed h))
-  retired =
-      sym (met-record v n shape (h .retirer) (z .its-retirer) (lineRetires h .state))
-      ∙ retiring-record shape (lineServed h) served-controls (h .retirer) n numbered (h .offset) (h .width) (h .writes) (z .retired)
-      ∙ ap retire (met-record v n shape (h .retirer) (z .its-retirer) (lineServed h))
-
-  up₃ : Pending (lineRetires h .state)
-  up₃ = record {
-    controls = every-other-call shape (WriteCpuInterface (h .retirer) (h .offset) (h .width) (h .writes)) refl (lineServed h) served-controls;
-    line = ap held retired ∙ retired-held (recordAt shape v n (lineServed h)) served-up;
-    pending = ap (λ (r : InterruptRecord). r .pending) retired ∙ retired-pends (recordAt shape v n (lineServed h)) served-up;
-  }
-
-  up₄ : Pending (lineWaitsAgain h)
-  up₄ = a-held-line-stays-pending shape v n (z .there) (z .no-sgi) (h .meanwhile₃) (lineRetires h .state) up₃ (z .held₃)
-
   -- what is pending is heard
   module _ (s : List ℕ) (p : Pending s) where
     own-pending : (reader : ℕ) → Reader h reader s → recordAt shape reader n s .pending ≡ true
@@ -138,15 +115,44 @@ module _ (h : HeldLine) (z : Holding h) where
   wakes c e s controls p reader r quiet =
       wakes-are-rises c e s (record { shape = shape; controls = controls }) reader ∙ simp (quiet, level-up (called c s .state) p reader r)
 
+  -- if it is retired
+  module _ (y : Retirement h) where
+    served-controls : Controls shape (lineServed h)
+    served-controls = line-controls shape v n (h .meanwhile₂) (lineWaits h) (up₂ .controls) (y .held₂)
+
+    served-up : held (recordAt shape v n (lineServed h)) ≡ true
+    served-up = a-line-stays-up shape v n (z .there) (z .no-sgi) (h .meanwhile₂) (lineWaits h) (up₂ .controls) (up₂ .line) (y .held₂)
+
+    retired : recordAt shape v n (lineRetires h .state) ≡ retire (recordAt shape v n (lineServed h))
+    retired =
+        sym (met-record v n shape (h .retirer) (y .its-retirer) (lineRetires h .state))
+        ∙ retiring-record shape (lineServed h) served-controls (h .retirer) n numbered (h .offset) (h .width) (h .writes) (y .retired)
+        ∙ ap retire (met-record v n shape (h .retirer) (y .its-retirer) (lineServed h))
+
+    up₃ : Pending (lineRetires h .state)
+    up₃ = record {
+      controls = every-other-call shape (WriteCpuInterface (h .retirer) (h .offset) (h .width) (h .writes)) refl (lineServed h) served-controls;
+      line = ap held retired ∙ retired-held (recordAt shape v n (lineServed h)) served-up;
+      pending = ap (λ (r : InterruptRecord). r .pending) retired ∙ retired-pends (recordAt shape v n (lineServed h)) served-up;
+    }
+
+    up₄ : Pending (lineWaitsAgain h)
+    up₄ = a-held-line-stays-pending shape v n (z .there) (z .no-sgi) (h .meanwhile₃) (lineRetires h .state) up₃ (y .held₃)
+
+    heard-again : HeardAgain h
+    unfolding retire deactivateInflight setOwner
+    heard-again = record {
+      idle = ap (λ (r : InterruptRecord). r .active) retired;
+      not-in-flight = ap (λ (r : InterruptRecord). r .inflight) retired;
+      pends-again = heard (lineRetires h .state) up₃;
+      retirement-wakes = wakes (WriteCpuInterface (h .retirer) (h .offset) (h .width) (h .writes)) refl (lineServed h) served-controls up₃;
+      still-waits = heard (lineWaitsAgain h) up₄;
+    }
+
   pub the-ring-is-never-silent : NeverSilent h
-  unfolding retire deactivateInflight setOwner
   the-ring-is-never-silent = record {
     rise-accepted = ap (λ (o : Outcome). o .refusal) (input-call shape (h .words) (z .controls) v (Level true) n (z .there) (z .no-sgi));
     rise-wakes = wakes (SetLevel v n true) refl (h .words) (z .controls) up₁;
     waits = heard (lineWaits h) up₂;
-    idle = ap (λ (r : InterruptRecord). r .active) retired;
-    not-in-flight = ap (λ (r : InterruptRecord). r .inflight) retired;
-    pends-again = heard (lineRetires h .state) up₃;
-    retirement-wakes = wakes (WriteCpuInterface (h .retirer) (h .offset) (h .width) (h .writes)) refl (lineServed h) served-controls up₃;
-    still-waits = heard (lineWaitsAgain h) up₄;
+    again = heard-again;
   }

@@ -45,14 +45,17 @@ lineRetires h = called (WriteCpuInterface (h .retirer) (h .offset) (h .width) (h
 abbrev pub lineWaitsAgain : HeldLine → List ℕ
 lineWaitsAgain h = run (h .meanwhile₃) (lineRetires h .state)
 
--- the interrupt is level; no call lets its line go: no setup or load is accepted, its device does not lower it, and it is not made edge; and while it
--- waits no call gives it. Clears of its pending bit may be among the calls wherever they like (`a-clear-lets-nothing-go`).
+-- the interrupt is level; while it waits no call gives it, and none lets its line go: no setup or load is accepted, its device does not lower it, and it
+-- is not made edge. Clears of its pending bit may be among the calls wherever they like (`a-clear-lets-nothing-go`).
 pub record Holding (h : HeldLine) : Type 0 where
   pub controls : Controls (h .shape) (h .words)
   pub there : RecordThere (h .shape) (h .vcpu) (h .interrupt)
   pub no-sgi : 16 ≤ h .interrupt
   pub level : isLevel (recordAt (h .shape) (h .vcpu) (h .interrupt) (h .words) .trigger) ≡ true
   pub held₁ : never (λ s. letsGoOrGives (h .vcpu) (h .interrupt)) (h .meanwhile₁) (lineRises h .state) ≡ true
+
+-- then no call lets the line go, a write retires the interrupt, and while it waits again it is as before
+pub record Retirement (h : HeldLine) : Type 0 where
   pub held₂ : never (λ s. letsGo (h .vcpu) (h .interrupt)) (h .meanwhile₂) (lineWaits h) ≡ true
   pub its-retirer : meets (h .vcpu) (h .interrupt) (h .retirer) ≡ true
   pub retired : lineRetires h .retired ≡ h .interrupt
@@ -75,14 +78,17 @@ pub record Heard (h : HeldLine) (s : List ℕ) : Type 0 where
 abbrev pub WakesReaders : HeldLine → List ℕ → Outcome → Type 0
 WakesReaders h before o = (reader : ℕ) → Reader h reader (o .state) → toldLevel reader before ≡ 0 → wakeBit reader o ≡ 1
 
--- the ring does not fall silent
-pub record NeverSilent (h : HeldLine) : Type 0 where
-  pub rise-accepted : lineRises h .refusal ≡ 0
-  pub rise-wakes : WakesReaders h (h .words) (lineRises h)
-  pub waits : Heard h (lineWaits h)
-  -- retired, it is neither active nor in flight, and pending again
+-- retired, it is neither active nor in flight, and pending again
+pub record HeardAgain (h : HeldLine) : Type 0 where
   pub idle : recordAt (h .shape) (h .vcpu) (h .interrupt) (lineRetires h .state) .active ≡ false
   pub not-in-flight : recordAt (h .shape) (h .vcpu) (h .interrupt) (lineRetires h .state) .inflight ≡ false
   pub pends-again : Heard h (lineRetires h .state)
   pub retirement-wakes : WakesReaders h (lineServed h) (lineRetires h)
   pub still-waits : Heard h (lineWaitsAgain h)
+
+-- the ring does not fall silent: not while the interrupt waits, whatever comes after, and not if it is retired
+pub record NeverSilent (h : HeldLine) : Type 0 where
+  pub rise-accepted : lineRises h .refusal ≡ 0
+  pub rise-wakes : WakesReaders h (h .words) (lineRises h)
+  pub waits : Heard h (lineWaits h)
+  pub again : Retirement h → HeardAgain h

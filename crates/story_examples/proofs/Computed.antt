@@ -29,7 +29,7 @@ use Rattle.corners.proofs.Started.{started, setup-started, computing}
 use Rattle.stories.specs.Stories.{Takes, ahead, NoneAhead, TwoRings, bothWait, firstRead, oneWaits, secondRead, Sleeping, PulseInFlight, turn, readAgain, InService}
 use Rattle.handlers.specs.Handlers.{Handler, nextRead, runningRead, later, Runs, Foremost}
 use Rattle.handlers.proofs.Shielded.{a-handler-is-shielded}
-use Rattle.held_lines.specs.HeldLines.{HeldLine, lineWaits, lineRetires, lineWaitsAgain, Holding}
+use Rattle.held_lines.specs.HeldLines.{HeldLine, lineWaits, lineRetires, lineWaitsAgain, Holding, Retirement}
 use Rattle.held_lines.proofs.Silence.{the-ring-is-never-silent}
 use Rattle.stories.proofs.TwoRings.{both-given}
 use Rattle.stories.proofs.PulseInFlight.{given-again}
@@ -255,7 +255,10 @@ line-controls : Controls (shaped 2 34) lineWords
 unfolding zeros beforeLine
 line-controls = controls 2 34 beforeLine refl refl refl
 
-line-holds : Holding (heldLineFrom lineWords)
+abbrev its : HeldLine
+its = heldLineFrom lineWords
+
+line-holds : Holding its
 unfolding run zeros beforeLine heldLineFrom computing
 line-holds = record {
   controls = line-controls;
@@ -263,16 +266,13 @@ line-holds = record {
   no-sgi = omega arith;
   level = refl;
   held₁ = refl;
-  held₂ = refl;
-  its-retirer = refl;
-  retired = refl;
-  held₃ = refl;
 }
 
--- vCPU 1 can take it while it waits, first and again, and nothing goes before it
-abbrev its : HeldLine
-its = heldLineFrom lineWords
+line-retires : Retirement its
+unfolding run zeros beforeLine heldLineFrom computing
+line-retires = record { held₂ = refl; its-retirer = refl; retired = refl; held₃ = refl }
 
+-- vCPU 1 can take it while it waits, first and again, and nothing goes before it
 first-takes : Takes (shaped 2 34) 1 33 (lineWaits its)
 unfolding run zeros beforeLine heldLineFrom computing
 first-takes = can-take (shaped 2 34) 1 33 (lineWaits its) refl
@@ -303,7 +303,7 @@ line-at = record {
   given = the-ring-is-never-silent its line-holds .waits .given 1 (record { exists = omega arith; its-reader = refl; takes = first-takes }) (none-ahead (shaped 2 34) 1 33 (lineWaits its) line-first);
   wakes = refl;
   given-again =
-      the-ring-is-never-silent its line-holds .still-waits .given 1 (record { exists = omega arith; its-reader = refl; takes = again-takes }) (none-ahead (shaped 2 34) 1 33 (lineWaitsAgain its) line-again);
+      the-ring-is-never-silent its line-holds .again line-retires .still-waits .given 1 (record { exists = omega arith; its-reader = refl; takes = again-takes }) (none-ahead (shaped 2 34) 1 33 (lineWaitsAgain its) line-again);
 }
 
 line-words : lineWords ≡ afterCalls 2 34 beforeLine
@@ -312,6 +312,9 @@ line-words = same-words 2 34 beforeLine refl refl
 
 pub line-held : Holding heldLineExample
 line-held = subst (λ (s : List ℕ). Holding (heldLineFrom s)) line-words line-holds
+
+pub line-retired : Retirement heldLineExample
+line-retired = subst (λ (s : List ℕ). Retirement (heldLineFrom s)) line-words line-retires
 
 pub line-rings-on : RingsOn heldLineExample
 line-rings-on = subst (λ (s : List ℕ). RingsOn (heldLineFrom s)) line-words line-at

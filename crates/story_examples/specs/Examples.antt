@@ -1,5 +1,5 @@
--- An example of each story of crates/stories, crates/handlers and crates/held_lines, so that a reader need not wonder whether its hypotheses can hold. Each starts
--- from a fresh controller, in words that were 0 and are just enough.
+-- An example of each story of crates/stories, crates/handlers and crates/held_lines, so that a reader need not wonder whether its hypotheses can hold.
+-- Each starts from a fresh controller, in words that were 0 and are just enough.
 use mathlib.Core.Bool.{false}
 use mathlib.Core.List.{List, [], _∷_}
 use Prim.Native.Nat.{ℕ}
