@@ -68,7 +68,7 @@ static inline uint16_t vgic_answer_retired(vgic_answer answer)
 }
 
 /* The layout of the words. It changes when a kept state of an earlier version means something else: keep it beside words that you keep. */
-#define VGIC_LAYOUT 2
+#define VGIC_LAYOUT 3
 
 /*
  * How many words a state takes: `count` is 1 to 8 vCPUs, and `limit`, 32 to 1020, the first number that is no interrupt. 0 where one of
@@ -76,14 +76,16 @@ static inline uint16_t vgic_answer_retired(vgic_answer answer)
  */
 uint64_t vgic_state_words(uint64_t count, uint64_t limit);
 
-#define VGIC_STATE_WORDS_MAX 2431
+#define VGIC_STATE_WORDS_MAX 2462
 
 /*
  * The same, and of constants a constant: it sizes an array, and may stand in #if. Out of range it is 0 too, which is no array's size in C
  * and C++ (gcc and clang let it pass without -Wpedantic; then vgic_setup refuses it). An argument may be evaluated several times.
  */
 #define VGIC_STATE_WORDS(count, limit) \
-    ((count) >= 1 && (count) <= 8 && (limit) >= 32 && (limit) <= 1020 ? 3 + (52 + 128) * (count) + ((limit) - 32) : 0)
+    ((count) >= 1 && (count) <= 8 && (limit) >= 32 && (limit) <= 1020 \
+         ? 3 + (52 + 128) * (count) + ((limit) - 32) + ((limit) - 1) / 32 \
+         : 0)
 
 /* Makes the words a fresh state. Refused by 4, then by 5. */
 vgic_answer vgic_setup(uint32_t *words, size_t length, uint64_t count, uint64_t limit);

@@ -8,11 +8,11 @@
 #include <inttypes.h>
 #include <stdio.h>
 
-#if VGIC_STATE_WORDS(2, 40) != 371 || VGIC_STATE_WORDS(9, 40) != 0
+#if VGIC_STATE_WORDS(2, 40) != 372 || VGIC_STATE_WORDS(9, 40) != 0
 #error "not a constant of the preprocessor, or another one"
 #endif
 static_assert(VGIC_STATE_WORDS(8, 1020) == VGIC_STATE_WORDS_MAX, "the largest");
-static_assert(VGIC_STATE_WORDS(1 + 1, 32 + 8) == 371, "an argument is an expression");
+static_assert(VGIC_STATE_WORDS(1 + 1, 32 + 8) == 372, "an argument is an expression");
 static_assert(VGIC_STATE_WORDS(-1, 40) == 0 && VGIC_STATE_WORDS(1, 4294967328) == 0, "out of range");
 
 static uint64_t compared, most, longest;

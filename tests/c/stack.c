@@ -88,7 +88,7 @@ static void service(uint64_t *of_read, uint64_t *of_eoir, uint64_t *of_dir)
         vgic_write_v2_cpu_interface(words, length, 0, 0, 4, turn % 2 ? 0x201 : 1);
         uint64_t read[6] = {(uint64_t)words, length, 0, 0xc, 4};
         *of_read = deepest(*of_read, (const void *)vgic_read_v2_cpu_interface, read);
-        uint32_t stack = 3 + 52 * words[0] + words[1] - 32, depth = words[3 + 3];
+        uint32_t stack = 3 + 52 * words[0] + words[1] - 32 + (words[1] - 1) / 32, depth = words[3 + 3];
         uint64_t number = depth ? words[stack + depth - 1] & 1023 : 1023;
         uint64_t end[6] = {(uint64_t)words, length, 0, 0x10, 4, number};
         *of_eoir = deepest(*of_eoir, (const void *)vgic_write_v2_cpu_interface, end);

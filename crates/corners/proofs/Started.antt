@@ -19,13 +19,13 @@ use Rattle.state.specs.Loop.{upTo, everyBelow}
 use Rattle.state.specs.Fresh.{fresh}
 use Rattle.state.specs.declared.layout.Shape.{Shape}
 use Rattle.state.specs.Layout.{size, interfaceOf, headerSlot, vcpuSlot, slotAt}
-use Rattle.state.specs.Words.{recordSlot, startOf}
+use Rattle.state.specs.Words.{recordSlot, startAt, withBit, readyBit, withReadyBit}
 use Rattle.state.specs.Lent.{inLimits, shaped, limited, validated}
 use Rattle.bits.specs.Bits.{readNumber, readBits, clearActive, writeNumber, writeBits}
 use Rattle.targets.specs.Targets.{readTarget, writeTarget}
 use Rattle.sgi.specs.Sgi.{writeSources, pendSgi, sgiTarget, sendSgi, writeSgir}
 use Rattle.distributor.specs.Bytes.{readPriority, writePriority, readBytes, writeBytes}
-use Rattle.select.specs.Select.{candidate, bestBelow, highestPending}
+use Rattle.select.specs.Select.{candidate, bestAmong, highestPending}
 use Rattle.service.specs.Service.{stackTo, pushed, popped, dropped}
 use Rattle.acknowledge.specs.Acknowledge.{groupPriority, offer, lowestFrom, sourceOf, pendIfLeft, sourceTaken, givenRecord, given, answered, taken}
 use Rattle.end.specs.End.{retire, deactivated, retired, ended, endRetired}
@@ -55,11 +55,11 @@ filled f zero s = refl
 filled f (suc n) s = ap (λ (t : List ℕ). set t n (f n)) (filled f n s) ∙ simp zero-add at (one-more f 0 n s)
 
 abbrev pub started : Shape → List ℕ → List ℕ
-started shape s = overlaid (λ k. startOf shape (slotAt shape k)) 0 (size shape) s
+started shape s = overlaid (startAt shape) 0 (size shape) s
 
 fresh-started : (shape : Shape) (s : List ℕ) → fresh shape s ≡ started shape s
 unfolding fresh
-fresh-started shape s = filled (λ k. startOf shape (slotAt shape k)) (size shape) s
+fresh-started shape s = filled (startAt shape) (size shape) s
 
 -- what a setup within the limits, in words enough, comes to
 pub setup-started : (count limit : ℕ) (s : List ℕ) → inLimits count limit ≡ true → leb (size (shaped count limit)) (length s) ≡ true → start.setup count limit s ≡ gave 0 (started (shaped count limit) s)
@@ -68,5 +68,5 @@ setup-started count limit s within long = simp (within, long, fresh-started (sha
 
 -- a call; where this unfolds, so does all that the calls of a computed history go by
 unfoldable pub computing : Call → List ℕ → Outcome
-unfolding upTo limited newRecord startingRecord setEnabled setPending setActive stateOf setState markInflight synchronizeInflight cancelInflight held finishInflight deactivateInflight setPriority setTrigger setCpuTargetMask setOwner setLevel pulse complete decoded startingTrigger recordOf wordOf packed gathered firstNumber isPrivate placeAt unfit single bitWord byteArray locateInFrame locateDistributor registers registerIn registerAt locateCpuInterface ranges rangeIn rangeAt everyBelow interfaceOf headerSlot vcpuSlot slotAt recordSlot validated readNumber readBits clearActive writeNumber writeBits readTarget writeTarget writeSources pendSgi sgiTarget sendSgi writeSgir readPriority writePriority readBytes writeBytes candidate bestBelow highestPending stackTo pushed popped dropped groupPriority offer lowestFrom sourceOf pendIfLeft sourceTaken givenRecord given answered taken retire deactivated retired ended endRetired wakeSet readV2Distributor writeV2Distributor readV2CpuInterface writeV2CpuInterface inputOf deviceInput
+unfolding withBit readyBit withReadyBit upTo limited newRecord startingRecord setEnabled setPending setActive stateOf setState markInflight synchronizeInflight cancelInflight held finishInflight deactivateInflight setPriority setTrigger setCpuTargetMask setOwner setLevel pulse complete decoded startingTrigger recordOf wordOf packed gathered firstNumber isPrivate placeAt unfit single bitWord byteArray locateInFrame locateDistributor registers registerIn registerAt locateCpuInterface ranges rangeIn rangeAt everyBelow interfaceOf headerSlot vcpuSlot slotAt recordSlot validated readNumber readBits clearActive writeNumber writeBits readTarget writeTarget writeSources pendSgi sgiTarget sendSgi writeSgir readPriority writePriority readBytes writeBytes candidate bestAmong highestPending stackTo pushed popped dropped groupPriority offer lowestFrom sourceOf pendIfLeft sourceTaken givenRecord given answered taken retire deactivated retired ended endRetired wakeSet readV2Distributor writeV2Distributor readV2CpuInterface writeV2CpuInterface inputOf deviceInput
 computing c s = called c s

@@ -16,14 +16,15 @@ use Rattle.word.specs.Word.{recordOf, wordOf, InRange, ownersHeld}
 use Rattle.word.proofs.RecordWord.{decoded-in-range}
 use Rattle.state.specs.declared.layout.Shape.{Shape}
 use Rattle.state.specs.declared.layout.InterfaceValue.the-variants.{Depth}
-use Rattle.state.specs.Layout.{Slot, Interface, Sources, Stack, Exists, Room, stackCapacity}
-use Rattle.state.specs.Words.{wordAt, put, entryWord, recordSlot, RecordThere, recordAt, changed, sourcesAt, withSources}
-use Rattle.state.proofs.Accessors.{put-room, put-other, put-comm, record-exists, record-same, sources-same}
+use Rattle.state.specs.Layout.{Slot, Interface, Sources, Spi, Stack, Exists, Room, stackCapacity}
+use Rattle.state.specs.Words.{wordAt, put, entryWord, recordSlot, RecordThere, recordAt, readyBit, changed, sourcesAt, withSources}
+use Rattle.state.proofs.Ready.{ExactAt, PutKeeps, Anywhere, room-kept, WithBit, bit-kept, ExactBit, exact-kept, put-makes-exact, put-comm}
+use Rattle.state.proofs.Accessors.{put-room, put-other, record-exists, record-spi, record-same, sources-same}
 use Rattle.state.proofs.SlotKinds.{kinds-apart, record-apart, apart-record}
 use Rattle.sgi.specs.Sgi.{mergedSources}
 use Rattle.select.specs.declared.Candidate.{Candidate}
 use Rattle.service.specs.Service.{depthAt, stackAt, pushed}
-use Rattle.service.proofs.Stacks.{stack-same, pushed-room, pushed-others, pushed-depth, pushed-stack}
+use Rattle.service.proofs.Stacks.{stack-same, pushed-keeps, pushed-room, pushed-others, pushed-depth, pushed-stack}
 use Rattle.acknowledge.specs.Acknowledge.{lowestSource, sourceOf, pendIfLeft, withoutSource, sourceTaken, givenRecord, pushedFor, given, Givable}
 
 -- a source taken touches its SGI's sources and record alone
@@ -50,23 +51,23 @@ module _ (shape : Shape) (v n source : ℕ) (there : RecordThere shape v n) wher
           ∙ put-other shape s t (Sources v n) (mergedSources false (sourcesAt shape v n s) (2 ^ source)) x (there .banked (omega arith), sgi) no-sources
       go false e = refl
 
-  pub source-room : (s : List ℕ) → Room shape s → Room shape (sourceTaken shape v n source s)
+  pub source-keeps : (Mine : Slot → Type 0) → Mine (recordSlot v n) → Mine (Sources v n) → (P : List ℕ → Type 0) → PutKeeps shape Mine P → (s : List ℕ) → P s → P (sourceTaken shape v n source s)
   unfolding sourceTaken pendIfLeft
-  source-room s h = go (ltb n 16)
+  source-keeps Mine own sources P keeps s p = go (ltb n 16) refl
     where
       after : List ℕ
       after = withoutSource shape v n source s
 
-      left : Room shape after
-      left = put-room shape s (Sources v n) (mergedSources false (sourcesAt shape v n s) (2 ^ source)) h
+      left : n < 16 → P after
+      left sgi = keeps (Sources v n) (mergedSources false (sourcesAt shape v n s) (2 ^ source)) s (there .banked (omega arith), sgi) sources p
 
-      pend : (b : Bool) → Room shape (cond b after (changed shape v n (λ r. setPending r true) after))
-      pend true = left
-      pend false = put-room shape after (recordSlot v n) (wordOf (setPending (recordAt shape v n after) true)) left
+      pend : (b : Bool) → n < 16 → P (cond b after (changed shape v n (λ r. setPending r true) after))
+      pend true sgi = left sgi
+      pend false sgi = keeps (recordSlot v n) (wordOf (setPending (recordAt shape v n after) true)) after record-there own (left sgi)
 
-      go : (b : Bool) → Room shape (cond b (pendIfLeft shape v n after) s)
-      go true = pend (eqb (sourcesAt shape v n after) 0)
-      go false = h
+      go : (b : Bool) → ltb n 16 ≡ b → P (cond b (pendIfLeft shape v n after) s)
+      go true e = pend (eqb (sourcesAt shape v n after) 0) (ltb-true n 16 e)
+      go false e = p
 
 module _ (shape : Shape) (v : ℕ) (e : Candidate) (s : List ℕ) (g : Givable shape v e s) where
   there : RecordThere shape v (e .intid .0)
@@ -78,8 +79,8 @@ module _ (shape : Shape) (v : ℕ) (e : Candidate) (s : List ℕ) (g : Givable s
   given-in-order =
       ap (sourceTaken shape v n (sourceOf shape v n s))
       (ap (λ (x : ℕ). put shape slot (wordOf (givenRecord v (recordOf x))) (pushed shape v (pushedFor shape v s e) s)) (pushed-others shape v (pushedFor shape v s e) s (g .served) (g .room) slot it off-depth off-stack)
-      ∙ put-comm shape (put shape depth (d + 1) s) (Stack v d) slot (entryWord (pushedFor shape v s e)) marked (g .served .exists, g .room) it (λ p. off-stack (sym p))
-      ∙ ap (put shape (Stack v d) (entryWord (pushedFor shape v s e))) (put-comm shape s depth slot (d + 1) marked (g .served .exists) it (λ p. off-depth (sym p)))
+      ∙ put-comm shape (put shape depth (d + 1) s) (put-room shape s depth (d + 1) (g .served .state)) (Stack v d) slot (entryWord (pushedFor shape v s e)) marked (g .served .exists, g .room) it (λ p. off-stack (sym p))
+      ∙ ap (put shape (Stack v d) (entryWord (pushedFor shape v s e))) (put-comm shape s (g .served .state) depth slot (d + 1) marked (g .served .exists) it (λ p. off-depth (sym p)))
       ∙ ap (λ (x : ℕ). put shape (Stack v x) (entryWord (pushedFor shape v s e)) (put shape depth (x + 1) (put shape slot marked s))) (sym (put-other shape s depth slot marked (g .served .exists) it (λ p. off-depth (sym p)))))
     where
       n : ℕ
@@ -114,12 +115,38 @@ module _ (shape : Shape) (v : ℕ) (e : Candidate) (s : List ℕ) (g : Givable s
       source-others shape v (e .intid .0) (sourceOf shape v (e .intid .0) s) there before t x no-record no-sources
       ∙ put-other shape (pushed shape v (pushedFor shape v s e) s) t (recordSlot v (e .intid .0)) (wordOf (givenRecord v (recordAt shape v (e .intid .0) (pushed shape v (pushedFor shape v s e) s)))) x (record-exists shape v (e .intid .0) there) no-record
 
+  -- what the writes of its slots keep, from the push on and from the record on
+  module _ (Mine : Slot → Type 0) (own : Mine (recordSlot v (e .intid .0))) (sources : Mine (Sources v (e .intid .0))) (P : List ℕ → Type 0) (keeps : PutKeeps shape Mine P) where
+    marked-keeps : P (changed shape v (e .intid .0) (givenRecord v) (pushed shape v (pushedFor shape v s e) s)) → P (given shape v e s)
+    unfolding given
+    marked-keeps p = source-keeps shape v (e .intid .0) (sourceOf shape v (e .intid .0) s) there Mine own sources P keeps (changed shape v (e .intid .0) (givenRecord v) (pushed shape v (pushedFor shape v s e) s)) p
+
+    pub given-keeps : Mine (Interface v Depth) → Mine (Stack v (depthAt shape v s)) → P s → P (given shape v e s)
+    given-keeps depth entry p =
+        let before = pushed shape v (pushedFor shape v s e) s in
+        marked-keeps
+        (keeps (recordSlot v (e .intid .0)) (wordOf (givenRecord v (recordAt shape v (e .intid .0) before))) before (record-exists shape v (e .intid .0) there) own
+        (pushed-keeps shape v (pushedFor shape v s e) s (g .served) (g .room) Mine depth entry P keeps p))
+
   pub given-room : Room shape (given shape v e s)
-  unfolding given
-  given-room =
-      let before = changed shape v (e .intid .0) (givenRecord v) (pushed shape v (pushedFor shape v s e) s) in
-      source-room shape v (e .intid .0) (sourceOf shape v (e .intid .0) s) there before
-      (put-room shape (pushed shape v (pushedFor shape v s e) s) (recordSlot v (e .intid .0)) (wordOf (givenRecord v (recordAt shape v (e .intid .0) (pushed shape v (pushedFor shape v s e) s)))) (pushed-room shape v (pushedFor shape v s e) s (g .served) (g .room)))
+  given-room = given-keeps Anywhere tt tt (Room shape) (room-kept shape Anywhere) tt tt (g .served .state)
+
+  -- an SPI's bit: its own is set anew, every other stays
+  pub given-bit : 32 ≤ e .intid .0 → ExactAt shape (e .intid .0) (given shape v e s)
+  given-bit high =
+      let n = e .intid .0 in
+      let spi : recordSlot v n ≡ Spi n = record-spi v n (le-ltb n 32 high) in
+      let it : Exists shape (Spi n) = (high, g .numbered) in
+      let before = pushed shape v (pushedFor shape v s e) s in
+      let room = pushed-room shape v (pushedFor shape v s e) s (g .served) (g .room) in
+      marked-keeps Anywhere tt tt (ExactBit shape n) (exact-kept shape Anywhere n it)
+      (put-room shape before (recordSlot v n) _ room, rw spi (put-makes-exact shape before room n (wordOf (givenRecord v (recordOf (wordAt shape (Spi n) before)))) it)) .1
+
+  pub given-bits : (n : ℕ) → Exists shape (Spi n) → (Spi n ≡ recordSlot v (e .intid .0) → ⊥) → readyBit shape n (given shape v e s) ≡ readyBit shape n s
+  given-bits n it apart =
+      given-keeps (λ t. Spi n ≡ t → ⊥) apart (kinds-apart (Spi n) (Sources v (e .intid .0)) refl)
+      (WithBit shape n (readyBit shape n s)) (bit-kept shape (λ t. Spi n ≡ t → ⊥) n (readyBit shape n s) it (λ t away. away))
+      (kinds-apart (Spi n) (Interface v Depth) refl) (kinds-apart (Spi n) (Stack v (depthAt shape v s)) refl) (g .served .state, refl) .1
 
   -- every other slot stays
   pub given-others : (t : Slot) → Exists shape t → (t ≡ recordSlot v (e .intid .0) → ⊥) → (t ≡ Sources v (e .intid .0) → ⊥) → (t ≡ Interface v Depth → ⊥) → (t ≡ Stack v (depthAt shape v s) → ⊥)

@@ -19,7 +19,7 @@ use Rattle.state.specs.Layout.{Slot, Interface, Sources, Private, Spi, Room}
 use Rattle.state.specs.Words.{recordSlot, RecordThere, recordAt, startOf}
 use Rattle.state.proofs.Accessors.{record-exists}
 use Rattle.state.proofs.Places.{starting-in-range}
-use Rattle.state.proofs.Starting.{fresh-word, fresh-held, fresh-canonical}
+use Rattle.state.proofs.Starting.{fresh-word, fresh-held, fresh-canonical, fresh-exact}
 use Rattle.service.specs.Service.{depthAt}
 use Rattle.lawful.specs.Lawful.{OrderlyRecord, LawfulRecord, Orderly, Lawful, Controls}
 
@@ -68,6 +68,7 @@ module _ (shape : Shape) (s : List ℕ) (h : Room shape s) where
     sourced = λ v n b sgi.
         ap (λ (r : InterruptRecord). r .pending) (sym (started v n (record { numbered = omega (arith, sgi, h .limits .private-numbers); banked = λ low. b })))
         ∙ starting-quiet n ∙ rw (fresh-word shape s (Sources v n) h (b, sgi));
+    summary = fresh-exact shape s h;
   }
 
   pub fresh-lawful : Lawful shape (fresh shape s)

@@ -15,7 +15,7 @@ use Rattle.interrupt.specs.declared.types.TriggerMode.the-variants.{Edge}
 use Rattle.word.specs.Word.{maskByte}
 use Rattle.state.specs.declared.layout.Shape.{Shape}
 use Rattle.state.specs.Lent.{HoldsState}
-use Rattle.state.specs.Words.{RecordThere, recordAt, sourcesAt, entryAt, Canonical}
+use Rattle.state.specs.Words.{RecordThere, recordAt, sourcesAt, entryAt, Canonical, Exact}
 use Rattle.service.specs.Service.{depthAt}
 
 -- the priority of entry i under service at v, 0 the oldest
@@ -47,6 +47,8 @@ pub record Orderly (shape : Shape) (s : List ℕ) : Type 0 where
   pub records : (v n : ℕ) → RecordThere shape v n → OrderlyRecord shape (recordAt shape v n s)
   -- "an SGI is pending at a vCPU exactly when a source bit is set there"
   pub sourced : (v n : ℕ) → v < shape .count → n < 16 → recordAt shape v n s .pending ≡ not (eqb (sourcesAt shape v n s) 0)
+  -- request Five: "The exactness of these bits joins demand 3's properties"
+  pub summary : Exact shape s
 
 -- what request One adds, of the record r that the vCPU v has as number n
 pub record LawfulRecord (shape : Shape) (v n : ℕ) (r : InterruptRecord) : Type 0 where

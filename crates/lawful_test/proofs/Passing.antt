@@ -7,6 +7,7 @@ use native.Mathlib.Omega.{arith}
 use lib.Dec.{eqb, ltb}
 use lib.Pow.{pow-pos}
 use borrow.Author.Tests.{lt-ltb, le-ltb, ltb-true, ltb-false, eqb-true, eq-eqb, not-true, not-false}
+use Rattle.interrupt.specs.Record.{isReady}
 use Rattle.interrupt.specs.Types.{isLevel, idlePriority}
 use Rattle.interrupt.specs.declared.record.CpuTargetMask.{CpuTargetMask}
 use Rattle.interrupt.specs.declared.record.CpuTargetMask.the-variants.{Unset, Mask}
@@ -15,16 +16,18 @@ use Rattle.interrupt.specs.declared.record.Owner.{Owner}
 use Rattle.interrupt.specs.declared.record.Owner.the-variants.{Nobody, Vcpu}
 use Rattle.interrupt.specs.declared.types.TriggerMode.{TriggerMode}
 use Rattle.interrupt.specs.declared.types.TriggerMode.the-variants.{Level, Edge}
-use Rattle.word.specs.Word.{maskByte}
+use Rattle.word.specs.Word.{recordOf, maskByte}
 use Rattle.word.proofs.Cases.{last-or}
 use Rattle.state.specs.declared.layout.Shape.{Shape}
 use Rattle.state.specs.Lent.{HoldsState}
 use Rattle.state.specs.Loop.{everyBelow}
-use Rattle.state.specs.Words.{recordSlot, RecordThere, recordAt, sourcesAt, entryAt}
+use Rattle.state.specs.Words.{wordAt, recordSlot, RecordThere, recordAt, readyBit, sourcesAt, entryAt, Exact}
+use Rattle.state.specs.Layout.{Slot, Spi}
+use Rattle.state.proofs.Accessors.{record-spi}
 use Rattle.state.proofs.Tests.{left-true, right-true, not-below, every-at, every-true}
 use Rattle.service.specs.Service.{depthAt, stackTo, runningOf}
 use Rattle.lawful.specs.Lawful.{priorityAt, Charged, OrderlyRecord, LawfulRecord, Lawful}
-use Rattle.lawful_test.specs.LawfulTest.{implied, ownerLawful, maskLawful, sgiLawful, recordLawful, sourcesLawful, numberLawful, entryLawfulAt, stackLawful, vcpuLawful, isLawful}
+use Rattle.lawful_test.specs.LawfulTest.{implied, ownerLawful, maskLawful, sgiLawful, recordLawful, sourcesLawful, numberLawful, entryLawfulAt, stackLawful, vcpuLawful, saysSame, bitLawful, spiLawful, isLawful}
 
 pub implied-holds : (a b : Bool) → (a ≡ true → b ≡ true) → implied a b ≡ true
 implied-holds true b h = h refl
@@ -145,6 +148,15 @@ pass-sources : (x : ℕ) (b : Bool) → sourcesLawful x b ≡ true → b ≡ not
 pass-sources x true e = sym e
 pass-sources x false e = rw e
 
+-- a bit and what it should say
+says-itself : (b : Bool) → saysSame b b ≡ true
+says-itself true = refl
+says-itself false = refl
+
+same-said : (a b : Bool) → saysSame a b ≡ true → a ≡ b
+same-said true b e = sym e
+same-said false b e = sym (not-true b e)
+
 -- a stack: it falls if each entry is below the one before it
 module _ (shape : Shape) (v : ℕ) (s : List ℕ) where
   entry-passes : Lawful shape s → v < shape .count → (i : ℕ) → i < depthAt shape v s → entryLawfulAt shape v s i ≡ true
@@ -201,6 +213,16 @@ module _ (shape : Shape) (s : List ℕ) where
   pub stack-passes : Lawful shape s → (v : ℕ) → v < shape .count → stackLawful shape v s ≡ true
   stack-passes h v b = every-true (entryLawfulAt shape v s) (depthAt shape v s) (entry-passes shape v s h b)
 
+  -- a bit that says what its record does
+  spi-record : (n : ℕ) → 32 ≤ n → recordOf (wordAt shape (Spi n) s) ≡ recordAt shape 0 n s
+  spi-record n high = ap (λ (t : Slot). recordOf (wordAt shape t s)) (sym (record-spi 0 n (le-ltb n 32 high)))
+
+  pub bit-passes : Exact shape s → (n : ℕ) → 32 ≤ n → n < shape .limit → bitLawful shape s n ≡ true
+  bit-passes x n high b = rw (x .exact n (high, b) ∙ ap isReady (spi-record n high)) (says-itself (isReady (recordAt shape 0 n s)))
+
+  passes-bit : (n : ℕ) → 32 ≤ n → bitLawful shape s n ≡ true → readyBit shape n s ≡ isReady (recordOf (wordAt shape (Spi n) s))
+  passes-bit n high e = same-said (readyBit shape n s) (isReady (recordAt shape 0 n s)) e ∙ ap isReady (sym (spi-record n high))
+
   pub lawful-passes : Lawful shape s → isLawful shape s ≡ true
   unfolding isLawful
   lawful-passes h =
@@ -208,7 +230,9 @@ module _ (shape : Shape) (s : List ℕ) where
       (every-true (vcpuLawful shape s) (shape .count) (λ v b. both-true (stackLawful shape v s) _
       (stack-passes h v b)
       (every-true (λ k. numberLawful shape v s (0 + k)) 32 (λ k low. number-passes h v (0 + k) (record { numbered = omega (arith, h .in-range .state .limits .private-numbers); banked = λ x. b })))))
-      (every-true (λ k. numberLawful shape 0 s (32 + k)) (shape .limit - 32) (λ k c. number-passes h 0 (32 + k) (record { numbered = omega arith; banked = λ x. absurd (omega arith) })))
+      (every-true (λ k. spiLawful shape s (32 + k)) (shape .limit - 32) (λ k c. both-true (numberLawful shape 0 s (32 + k)) _
+      (number-passes h 0 (32 + k) (record { numbered = omega arith; banked = λ x. absurd (omega arith) }))
+      (bit-passes (h .orderly .summary) (32 + k) (omega arith) (omega arith))))
 
   -- from 32 up a record is met alike by all
   owner-alike : (v n : ℕ) (b : Bool) (o : Owner) → 32 ≤ n → ownerLawful shape v n b o ≡ ownerLawful shape 0 n b o
@@ -236,12 +260,12 @@ module _ (shape : Shape) (s : List ℕ) where
         let same : 0 + n ≡ n = omega arith in
         rw same at (every-at (λ k. numberLawful shape v s (0 + k)) 32 n all low)
 
-    spi-pass : (n : ℕ) → 32 ≤ n → n < shape .limit → numberLawful shape 0 s n ≡ true
+    spi-pass : (n : ℕ) → 32 ≤ n → n < shape .limit → spiLawful shape s n ≡ true
     unfolding isLawful
     spi-pass n high b =
         let all = right-true (everyBelow (vcpuLawful shape s) (shape .count)) _ pass in
         let same : 32 + (n - 32) ≡ n = omega arith in
-        rw same at (every-at (λ k. numberLawful shape 0 s (32 + k)) (shape .limit - 32) (n - 32) all (omega arith))
+        rw same at (every-at (λ k. spiLawful shape s (32 + k)) (shape .limit - 32) (n - 32) all (omega arith))
 
     record-pass : (v n : ℕ) → RecordThere shape v n → Passed shape v n (recordAt shape v n s)
     unfolding numberLawful
@@ -249,7 +273,7 @@ module _ (shape : Shape) (s : List ℕ) where
         passes-record shape v n (recordAt shape v n s) (there .banked)
         (private-or n
         (λ low. left-true (recordLawful shape v n (recordAt shape v n s)) _ (private-pass v n (there .banked low) low))
-        (λ high. record-alike v n high ∙ left-true (recordLawful shape 0 n (recordAt shape 0 n s)) _ (spi-pass n high (there .numbered))))
+        (λ high. record-alike v n high ∙ left-true (recordLawful shape 0 n (recordAt shape 0 n s)) _ (left-true (numberLawful shape 0 s n) (bitLawful shape s n) (spi-pass n high (there .numbered)))))
 
     sourced-pass : (v n : ℕ) → v < shape .count → n < 16 → recordAt shape v n s .pending ≡ not (eqb (sourcesAt shape v n s) 0)
     unfolding numberLawful
@@ -265,6 +289,7 @@ module _ (shape : Shape) (s : List ℕ) where
         even = λ v i b. pass-even shape v s (stack-pass v b) i;
         records = λ v n there. record-pass v n there .orderly;
         sourced = sourced-pass;
+        summary = record { exact = λ n e. passes-bit n (e .0) (right-true (numberLawful shape 0 s n) (bitLawful shape s n) (spi-pass n (e .0) (e .1))) };
       };
       records = λ v n there. record-pass v n there .lawful;
       numbered = λ v i b. pass-numbered shape v s (stack-pass v b) i;

@@ -1,10 +1,11 @@
 -- `Lawful` as a test of the words. A reader need not believe any of it: `lawful-passes` and `passes-lawful` (proofs/Passing.antt) say that
 -- words that hold a state pass exactly if they are lawful. Each test names the fields of Lawful.antt that it stands for.
-use mathlib.Core.Bool.{Bool, true, not, cond, _&&_, _||_}
+use mathlib.Core.Bool.{Bool, true, false, not, cond, _&&_, _||_}
 use mathlib.Core.List.{List}
 use Prim.Native.Nat.{ℕ, _+_, _-_, _%_, _^_}
 use lib.Dec.{eqb, ltb}
 use Rattle.interrupt.specs.Types.{isSgi, isPrivateId, isLevel}
+use Rattle.interrupt.specs.Record.{isReady}
 use Rattle.interrupt.specs.declared.record.CpuTargetMask.{CpuTargetMask}
 use Rattle.interrupt.specs.declared.record.CpuTargetMask.the-variants.{Unset, Mask}
 use Rattle.interrupt.specs.declared.record.InterruptRecord.{InterruptRecord}
@@ -13,7 +14,7 @@ use Rattle.interrupt.specs.declared.record.Owner.the-variants.{Nobody, Vcpu}
 use Rattle.state.specs.declared.layout.Shape.{Shape}
 use Rattle.state.specs.declared.words.Entry.{Entry}
 use Rattle.state.specs.Loop.{everyBelow}
-use Rattle.state.specs.Words.{recordAt, sourcesAt, entryAt}
+use Rattle.state.specs.Words.{recordAt, readyBit, sourcesAt, entryAt}
 use Rattle.service.specs.Service.{depthAt, stackTo, runningOf}
 
 -- if a, then b
@@ -73,6 +74,20 @@ stackLawful shape v s = everyBelow (entryLawfulAt shape v s) (depthAt shape v s)
 abbrev pub vcpuLawful : Shape → List ℕ → ℕ → Bool
 vcpuLawful shape s v = stackLawful shape v s && numbersLawful shape v s 0 32
 
+-- `summary`: the bit says what the record does
+abbrev pub saysSame : Bool → Bool → Bool
+saysSame true b = b
+saysSame false b = not b
+
+abbrev pub bitLawful : Shape → List ℕ → ℕ → Bool
+bitLawful shape s n = saysSame (readyBit shape n s) (isReady (recordAt shape 0 n s))
+
 -- the records of SPIs are every vCPU's, and met as the first one's
+abbrev pub spiLawful : Shape → List ℕ → ℕ → Bool
+spiLawful shape s n = numberLawful shape 0 s n && bitLawful shape s n
+
+abbrev pub spisLawful : Shape → List ℕ → ℕ → Bool
+spisLawful shape s many = everyBelow (λ k. spiLawful shape s (32 + k)) many
+
 unfoldable pub isLawful : Shape → List ℕ → Bool
-isLawful shape s = everyBelow (vcpuLawful shape s) (shape .count) && numbersLawful shape 0 s 32 (shape .limit - 32)
+isLawful shape s = everyBelow (vcpuLawful shape s) (shape .count) && spisLawful shape s (shape .limit - 32)

@@ -6,7 +6,7 @@ ghost use Rattle.state.specs.Layout.{Limits, Sources};
 ghost use Rattle.state.specs.Loop.{everyBelow};
 ghost use Rattle.state.specs.Words.{Reached, HoldsSlot};
 ghost use Rattle.service.specs.Service.{Served, Sound};
-ghost use Rattle.lawful_test.specs.LawfulTest.{mayServe, ownerLawful, maskLawful, sgiLawful, recordLawful, sourcesLawful, numberLawful, numbersLawful, entryLawful, stackLawful, vcpuLawful, isLawful};
+ghost use Rattle.lawful_test.specs.LawfulTest.{mayServe, ownerLawful, maskLawful, sgiLawful, recordLawful, sourcesLawful, numberLawful, numbersLawful, entryLawful, stackLawful, vcpuLawful, saysSame, spiLawful, spisLawful, isLawful};
 ghost use Rattle.lawful_test.specs.Quiet.{quiet};
 use interrupt::CpuTargetMask;
 use interrupt::GicVcpuId;
@@ -19,6 +19,8 @@ use state::Entry;
 use state::Shape;
 use state::layout::FIRST_SPI;
 use state::layout::record_place;
+use state::words::ready_bit;
+use state::words::ready_word;
 use state::words::sgi_sources;
 use state::words::stack_entry;
 use word::decode;
@@ -155,22 +157,30 @@ fn ppis_lawful(words: &[u32], shape: Shape, vcpu: GicVcpuId) -> bool
     true
 }
 
+// Two answers are the same.
+fn says_same(a: bool, b: bool) -> bool
+    ensures { λ r. ⌜ r ≡ saysSame a b ⌝ }
+{
+    if a { b } else { !b }
+}
+
 // The records of SPIs are met as vCPU 0 meets them.
 fn spi_lawful(words: &[u32], shape: Shape, spi: IntId) -> bool
     requires { ⌜ (Reached shape 0 (spi .0) (now words)) × (32 ≤ spi .0) ⌝ }
-    ensures { λ r. ⌜ r ≡ numberLawful shape 0 (now (words .entry)) (spi .0) ⌝ }
+    ensures { λ r. ⌜ r ≡ spiLawful shape (now (words .entry)) (spi .0) ⌝ }
 {
     let at = record_place(shape, GicVcpuId(0), spi);
     let word = words[at];
+    let exact = says_same(ready_bit(words, shape, spi), ready_word(word));
     if is_quiet(word, 1u32 << shape.count) {
-        return true;
+        return exact;
     }
-    record_lawful(shape, GicVcpuId(0), spi, decode(word))
+    record_lawful(shape, GicVcpuId(0), spi, decode(word)) & exact
 }
 
 fn spis_lawful(words: &[u32], shape: Shape) -> bool
     requires { ⌜ Sound shape (now words) ⌝ }
-    ensures { λ r. ⌜ r ≡ numbersLawful shape 0 (now (words .entry)) 32 (shape .limit - 32) ⌝ }
+    ensures { λ r. ⌜ r ≡ spisLawful shape (now (words .entry)) (shape .limit - 32) ⌝ }
 {
     let many = shape.limit - FIRST_SPI;
     let mut i = 0;

@@ -1,32 +1,35 @@
 -- An acknowledge raises no line: what a vCPU could be given after it, it could be given before; and the one that was given something can be
 -- given nothing at once, since all that waits for it is less urgent than what it now serves, or of its group. Assumes nothing.
 use mathlib.Core.Path.{_≡_, refl, sym, ap, subst, _∙_}
-use mathlib.Core.Bool.{Bool, true, false, cond, _&&_, true≢false}
+use mathlib.Core.Bool.{Bool, true, false, not, cond, _&&_, and-false, true≢false}
 use mathlib.Core.List.{List}
 use Prim.Native.Nat.{ℕ, _≤_, _<_}
 use native.Mathlib.Omega.{arith}
 use lib.Dec.{eqb, ltb}
 use borrow.Author.Tests.{ltb-true, ltb-false, lt-ltb, eqb-true, eqb-false}
 use Rattle.interrupt.specs.declared.record.InterruptRecord.{InterruptRecord}
-use Rattle.interrupt.specs.Record.{synchronizeInflight, setState, setOwner, markInflight, setPending}
+use Rattle.interrupt.specs.Record.{isReady, synchronizeInflight, setState, setOwner, markInflight, setPending}
 use Rattle.state.specs.declared.layout.Shape.{Shape}
 use Rattle.state.specs.declared.layout.InterfaceValue.{InterfaceValue}
 use Rattle.state.specs.declared.layout.InterfaceValue.the-variants.{Control, PriorityMask, BinaryPoint, Depth}
 use Rattle.word.specs.Word.{recordOf}
+use Rattle.word.proofs.Cases.{same-or}
 use Rattle.state.specs.Layout.{Slot, DistributorControl, Interface, Sources, Stack, Limits, numberOf, interfaceNumber, stackCapacity}
-use Rattle.state.specs.Words.{wordAt, sourcesAt, recordAt, kept, interfaceAt, keptDistributorControl, enableBit, enabledAt}
+use Rattle.state.specs.Words.{wordAt, recordSlot, sourcesAt, recordAt, readyBit, kept, interfaceAt, keptDistributorControl, enableBit, enabledAt}
+use Rattle.state.proofs.Accessors.{record-spi, records-apart}
+use Rattle.state.proofs.Ready.{ExactAt}
 use Rattle.state.proofs.SlotKinds.{kinds-apart, apart-record}
 use Rattle.state.proofs.Tests.{left-true, right-true}
 use Rattle.select.specs.declared.Candidate.{Candidate}
 use Rattle.select.specs.declared.Selected.{Selected}
 use Rattle.select.specs.declared.Selected.the-variants.{Best, Nothing}
-use Rattle.select.specs.Select.{eligible, candidate, bothOn, IsBest}
-use Rattle.select.proofs.Meaning.{candidate-idle, best-is}
+use Rattle.select.specs.Select.{eligible, readyAt, candidate, bothOn, IsBest}
+use Rattle.select.proofs.Meaning.{candidate-is-ready, best-is}
 use Rattle.service.specs.Service.{depthAt, runningOf, running, Sound}
 use Rattle.acknowledge.specs.Acknowledge.{groupPriority, groupOf, offer, givenRecord, given, Givable}
 use Rattle.acknowledge.proofs.Grouping.{group-in-order}
 use Rattle.acknowledge.proofs.Offers.{offer-is, pushed-byte}
-use Rattle.delivery.proofs.Given.{given-others, given-depths, given-records, given-stack, given-stacks, given-record, given-sgi}
+use Rattle.delivery.proofs.Given.{given-others, given-bit, given-bits, given-depths, given-records, given-stack, given-stacks, given-record, given-sgi}
 use Rattle.moves.specs.Moves.{Giving}
 use Rattle.moves.proofs.Slots.{givable}
 use Rattle.wake.specs.Halves.{isSome, ready}
@@ -74,14 +77,37 @@ module _ (shape : Shape) (v : ℕ) (e : Candidate) (s : List ℕ) (h : Sound sha
 
     -- who is a candidate after it was one before, of the same priority
     module _ (n : ℕ) (below : n < shape .limit) (chosen : candidate shape u after n ≡ true) where
+      -- what is given is not ready, by its record and by its bit
+      not-given : recordSlot u n ≡ recordSlot v (e .intid .0) → ⊥
+      not-given p = true≢false (sym (candidate-is-ready shape u after n chosen) ∙ go (ltb n 32) refl)
+        where
+          unready : isReady (recordAt shape u n after) ≡ false
+          unready =
+              ap (λ (t : Slot). isReady (recordOf (wordAt shape t after))) p
+              ∙ ap (λ (b : Bool). recordAt shape v (e .intid .0) after .enabled && recordAt shape v (e .intid .0) after .pending && not b) active-after ∙ and-false (recordAt shape v (e .intid .0) after .enabled && recordAt shape v (e .intid .0) after .pending)
+
+          number : n ≡ e .intid .0
+          number = same-or n (e .intid .0) (λ q. q) (λ d. absurd (records-apart u v n (e .intid .0) d p))
+
+          go : (b : Bool) → ltb n 32 ≡ b → cond b (isReady (recordAt shape u n after)) (readyBit shape n after) ≡ false
+          go true q = unready
+          go false q =
+              subst (λ (k : ℕ). ExactAt shape k after) (sym number) (given-bit shape v e s it (rw number at (ltb-false n 32 q)))
+              ∙ ap (λ (t : Slot). isReady (recordOf (wordAt shape t after))) (sym (record-spi u n q)) ∙ unready
+
       record-stays : recordAt shape u n after ≡ recordAt shape u n s
-      record-stays =
-          given-records shape v e s it u n (record { numbered = below; banked = λ low. exists })
-          (λ p. true≢false (sym active-after ∙ ap (λ (t : Slot). recordOf (wordAt shape t after) .active) (sym p) ∙ candidate-idle shape u after n chosen))
+      record-stays = given-records shape v e s it u n (record { numbered = below; banked = λ low. exists }) not-given
+
+      ready-stays : readyAt shape u after n ≡ readyAt shape u s n
+      ready-stays = go (ltb n 32) refl
+        where
+          go : (b : Bool) → ltb n 32 ≡ b → cond b (isReady (recordAt shape u n after)) (readyBit shape n after) ≡ cond b (isReady (recordAt shape u n s)) (readyBit shape n s)
+          go true q = ap isReady record-stays
+          go false q = given-bits shape v e s it n (ltb-false n 32 q, below) (λ p. not-given (record-spi u n q ∙ p))
 
       candidate-before : candidate shape u s n ≡ true
       unfolding candidate
-      candidate-before = sym (λ i. eligible (value-stays PriorityMask refl i) u n (record-stays i)) ∙ chosen
+      candidate-before = sym (λ i. eligible (value-stays PriorityMask refl i) u n (ready-stays i) (record-stays i)) ∙ chosen
 
     -- what is offered after the acknowledge
     module _ (c : Candidate) (offered : offer shape u after ≡ Best c) where

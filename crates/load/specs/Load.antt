@@ -13,7 +13,7 @@ use Rattle.state.specs.declared.lent.Limited.{Limited}
 use Rattle.state.specs.declared.lent.Limited.the-variants.{Within, Outside}
 use Rattle.state.specs.Layout.{size}
 use Rattle.state.specs.Lent.{limited, shaped, withShape}
-use Rattle.state.specs.Words.{withDistributorControl}
+use Rattle.state.specs.Words.{withDistributorControl, withoutSummary}
 use Rattle.answer.specs.declared.Answer.{Answer}
 use Rattle.answer.specs.Answer.{Outcome, outcome, refused, gave}
 use Rattle.image.specs.Parts.{partCount}
@@ -50,9 +50,9 @@ openedAs image =
     thenShape opened.Refused (shapeFound image) (λ shape a.
     thenNumber opened.Refused (numberUpTo 1 image a) (λ control next. opened.Read shape control next))
 
--- the whole state, over these words
+-- the whole state, over these words; "Images don't carry the bits; loading makes them" (document 02, Five): from none, each with its record
 abbrev pub stored : Shape → ℕ → List ℕ → ℕ → List ℕ → List ℕ
-stored shape control image start s = partsStored shape image start (withDistributorControl shape control (withShape shape s))
+stored shape control image start s = partsStored shape image start (withDistributorControl shape control (withoutSummary shape (withShape shape s)))
 
 abbrev pub roomFor : Shape → List ℕ → List ℕ → Outcome
 roomFor shape s r = cond (leb (size shape) (length s)) (gave 0 r) (refused ShortState s)

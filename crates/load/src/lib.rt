@@ -13,6 +13,7 @@ use answer::gave;
 use register::Refusal;
 use state::Shape;
 use state::lent::put_shape;
+use state::words::clear_summary;
 use state::words::put_distributor_control;
 
 // What the lowest bit of a stated limit counts.
@@ -27,6 +28,7 @@ fn store(words: &mut [u32], image: &[u8], shape: Shape, control: u32, start: usi
     ensures { λ r. ⌜ now (words .exit) ≡ stored shape control (now (image .entry)) start (now (words .entry)) ⌝ }
 {
     put_shape(words, shape);
+    clear_summary(words, shape);
     put_distributor_control(words, shape, control);
     take_parts(image, start, words, shape, true);
 }

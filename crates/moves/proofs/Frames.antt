@@ -8,7 +8,7 @@ use Rattle.state.specs.declared.layout.Shape.{Shape}
 use Rattle.state.specs.declared.layout.InterfaceValue.the-variants.{Depth}
 use Rattle.state.specs.Layout.{Slot, Count, Limit, Interface, Sources, Stack}
 use Rattle.state.specs.Lent.{shaped}
-use Rattle.state.specs.Words.{wordAt, recordSlot, RecordThere, recordAt}
+use Rattle.state.specs.Words.{wordAt, recordSlot, RecordThere, recordAt, Exact}
 use Rattle.state.proofs.Accessors.{record-exists}
 use Rattle.state.proofs.Numbers.{Of}
 use Rattle.state.proofs.SlotKinds.{record-apart}
@@ -16,7 +16,7 @@ use Rattle.lawful.specs.Lawful.{Lawful}
 use Rattle.moves.specs.Moves.{Move, moved, Open}
 use Rattle.moves.proofs.Parts.{StackFine, SgiFine, parts-lawful, stack-kept, records-kept, sgis-kept, all-records, all-sgis}
 use Rattle.moves.proofs.Records.{Fine}
-use Rattle.moves.proofs.Slots.{StackOf, off-stack, Touches, move-room, move-others, touched-kind}
+use Rattle.moves.proofs.Slots.{StackOf, off-stack, Touches, move-room, move-others, touched-kind, move-exact}
 use Rattle.moves.proofs.Sounds.{lawful-sound}
 
 -- a record is on no stack
@@ -39,6 +39,9 @@ module _ (shape : Shape) (s : List ℕ) (h : Lawful shape s) where
     pub stack : (v : ℕ) → v < shape .count → (Touches m (Interface v Depth) → ⊥) → ((i : ℕ) → Touches m (Stack v i) → ⊥) → StackFine shape v r
     stack v b depth entries = stack-kept shape v s r h b (move-others shape s (lawful-sound h) m o (Interface v Depth) b depth) (λ i c. move-others shape s (lawful-sound h) m o (Stack v i) (b, c) (entries i))
 
+    summary : Exact shape r
+    summary = move-exact shape s (lawful-sound h) m o (h .orderly .summary)
+
     pub record-stays : (v n : ℕ) → RecordThere shape v n → (Touches m (recordSlot v n) → ⊥) → wordAt shape (recordSlot v n) r ≡ wordAt shape (recordSlot v n) s
     record-stays v n there away = move-others shape s (lawful-sound h) m o (recordSlot v n) (record-exists shape v n there) away
 
@@ -49,6 +52,7 @@ module _ (shape : Shape) (s : List ℕ) (h : Lawful shape s) where
     pub only-stacks : ((v n : ℕ) → Touches m (recordSlot v n) → ⊥) → ((v n : ℕ) → Touches m (Sources v n) → ⊥) → ((v : ℕ) → v < shape .count → StackFine shape v r) → Lawful shape r
     only-stacks records sources stacks =
         parts-lawful shape r (move-room shape s (lawful-sound h) m o) stored stacks (all-records shape s r h same) (all-sgis shape s r h same (λ v n b sgi. sources-stay v n b sgi (sources v n)))
+        summary
       where
         same : (v n : ℕ) → RecordThere shape v n → wordAt shape (recordSlot v n) r ≡ wordAt shape (recordSlot v n) s
         same v n there = record-stays v n there (records v n)
@@ -60,6 +64,7 @@ module _ (shape : Shape) (s : List ℕ) (h : Lawful shape s) where
         parts-lawful shape r (move-room shape s (lawful-sound h) m o) stored stacks
         (records-kept shape s r h v n there others fine)
         (sgis-kept shape s r h v n there others fine (λ u k b sgi away. sources-stay u k b sgi (λ p. away (touched (Sources u k) (off-stack v (Sources u k) refl) p))) own)
+        summary
       where
         not-own : (u k : ℕ) → (recordSlot u k ≡ recordSlot v n → ⊥) → Of v n (recordSlot u k) → ⊥
         not-own u k away (inl p) = away p

@@ -1,4 +1,4 @@
--- A lawful state in parts: each vCPU's stack, each record, each SGI with its sources; what leaves a part's slots leaves the part. Assumes nothing.
+-- A lawful state in parts: each vCPU's stack, each record, each SGI with its sources, and the summary; what leaves a part's slots leaves the part. Assumes nothing.
 use mathlib.Core.Path.{_≡_, refl, sym, subst}
 use mathlib.Core.Bool.{not}
 use mathlib.Core.List.{List}
@@ -13,7 +13,7 @@ use Rattle.state.specs.declared.layout.Shape.{Shape}
 use Rattle.state.specs.declared.layout.InterfaceValue.the-variants.{Depth}
 use Rattle.state.specs.Layout.{Slot, Count, Limit, Interface, Sources, Stack, Room, stackCapacity}
 use Rattle.state.specs.Lent.{shaped}
-use Rattle.state.specs.Words.{wordAt, recordSlot, RecordThere, recordAt, sourcesAt, entryAt}
+use Rattle.state.specs.Words.{wordAt, recordSlot, RecordThere, recordAt, sourcesAt, entryAt, Exact}
 use Rattle.state.proofs.Accessors.{record-exists, same-or-other, records-apart}
 use Rattle.state.proofs.Numbers.{Of, one-vcpu}
 use Rattle.state.proofs.SlotKinds.{apart-record}
@@ -42,7 +42,8 @@ module _ (shape : Shape) (r : List ℕ)
     (room : Room shape r) (stored : shape ≡ shaped (wordAt shape Count r) (wordAt shape Limit r))
     (stacks : (v : ℕ) → v < shape .count → StackFine shape v r)
     (records : (v n : ℕ) → RecordThere shape v n → Fine shape v n (recordAt shape v n r))
-    (sgis : (v n : ℕ) → v < shape .count → n < 16 → SgiFine shape v n r) where
+    (sgis : (v n : ℕ) → v < shape .count → n < 16 → SgiFine shape v n r)
+    (summary : Exact shape r) where
   orderly : Orderly shape r
   orderly = record {
     falling = λ v i j b k d. stacks v b .falling i j k d;
@@ -50,6 +51,7 @@ module _ (shape : Shape) (r : List ℕ)
     even = λ v i b d. stacks v b .even i d;
     records = λ v n there. records v n there .orderly;
     sourced = λ v n b sgi. sgis v n b sgi .sourced;
+    summary = summary;
   }
 
   pub parts-lawful : Lawful shape r

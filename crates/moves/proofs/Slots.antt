@@ -12,20 +12,21 @@ use Rattle.word.specs.Word.{wordOf}
 use Rattle.state.specs.declared.layout.Shape.{Shape}
 use Rattle.state.specs.declared.layout.InterfaceValue.the-variants.{Depth}
 use Rattle.state.specs.Layout.{Slot, DistributorControl, Interface, Sources, Stack, Exists, Room, isRecord, isSources, vcpuOf, onStack}
-use Rattle.state.specs.Words.{wordAt, kept, keptDistributorControl, recordSlot, recordAt, sourcesAt, withSources}
-use Rattle.state.proofs.Accessors.{put-room, put-other, record-exists}
+use Rattle.state.specs.Words.{wordAt, kept, keptDistributorControl, recordSlot, recordAt, sourcesAt, withSources, Exact}
+use Rattle.state.proofs.Accessors.{put-other, record-exists}
 use Rattle.state.proofs.Numbers.{Of}
 use Rattle.state.proofs.Places.{Inner}
+use Rattle.state.proofs.Ready.{PutKeeps, room-kept, Summed, summed-kept}
 use Rattle.state.proofs.SlotKinds.{kinds-apart, record-kind, apart-record}
 use Rattle.sgi.specs.Sgi.{mergedSources}
 use Rattle.select.specs.declared.Candidate.{Candidate}
 use Rattle.sgi.proofs.Rings.{sgi-exists}
 use Rattle.service.specs.Service.{depthAt, Served, Sound}
 use Rattle.service.proofs.Soundness.{sound-served}
-use Rattle.service.proofs.Stacks.{popped-room, popped-others}
+use Rattle.service.proofs.Stacks.{popped-keeps, popped-others}
 use Rattle.acknowledge.specs.Acknowledge.{Givable}
 use Rattle.acknowledge.proofs.Offers.{offer-below}
-use Rattle.delivery.proofs.Given.{given-room, given-others}
+use Rattle.delivery.proofs.Given.{given-keeps, given-others}
 use Rattle.moves.specs.Moves.{Move, Changed, Sourced, Kept, Switched, Given, Popped, becomes, moved, Giving, Open}
 
 -- the slots of a vCPU's stack: its depth and its entries
@@ -62,16 +63,27 @@ module _ (shape : Shape) (s : List ℕ) (h : Sound shape s) where
   pub givable : (v : ℕ) (e : Candidate) → Giving shape v e s → Givable shape v e s
   givable v e o = record { served = served v (o .exists); room = o .room; numbered = offer-below shape v s e (o .offered) }
 
-  pub move-room : (m : Move) → Open shape m s → Room shape (moved shape m s)
-  move-room (Changed v n c) o = put-room shape s (recordSlot v n) (wordOf (becomes c (recordAt shape v n s))) (h .state)
-  move-room (Sourced v n on byte) o =
+  -- what the writes of the slots that it touches keep, a move keeps
+  move-keeps : (m : Move) (P : List ℕ → Type 0) → PutKeeps shape (Touches m) P → Open shape m s → P s → P (moved shape m s)
+  move-keeps (Changed v n c) P keeps o p = keeps (recordSlot v n) (wordOf (becomes c (recordAt shape v n s))) s (record-exists shape v n (o .there)) refl p
+  move-keeps (Sourced v n on byte) P keeps o p =
       let x = mergedSources on (sourcesAt shape v n s) byte in
       let after = withSources shape v n x s in
-      put-room shape after (recordSlot v n) (wordOf (setPending (recordAt shape v n after) (not (eqb x 0)))) (put-room shape s (Sources v n) x (h .state))
-  move-room (Kept v k x) o = put-room shape s (Interface v k) (kept k x) (h .state)
-  move-room (Switched y) o = put-room shape s DistributorControl (keptDistributorControl y) (h .state)
-  move-room (Given v e) o = given-room shape v e s (givable v e o)
-  move-room (Popped v) o = popped-room shape v s (served v (o .exists)) (o .some)
+      let slot : Exists shape (Sources v n) = (o .exists, o .sgi) in
+      keeps (recordSlot v n) (wordOf (setPending (recordAt shape v n after) (not (eqb x 0)))) after (sgi-exists shape v n (h .state .limits) slot) (inl refl) (keeps (Sources v n) x s slot (inr refl) p)
+  move-keeps (Kept v k x) P keeps o p = keeps (Interface v k) (kept k x) s (o .exists) refl p
+  move-keeps (Switched y) P keeps o p = keeps DistributorControl (keptDistributorControl y) s tt refl p
+  move-keeps (Given v e) P keeps o p =
+      given-keeps shape v e s (givable v e o) (Touches (Given v e)) (inl (inl refl)) (inl (inr refl)) P keeps (inr (inl refl)) (inr (inr (record { index = depthAt shape v s; is = refl }))) p
+  move-keeps (Popped v) P keeps o p =
+      popped-keeps shape v s (served v (o .exists)) (o .some) (Touches (Popped v)) (inl refl) (inr (record { index = depthAt shape v s - 1; is = refl })) P keeps p
+
+  pub move-room : (m : Move) → Open shape m s → Room shape (moved shape m s)
+  move-room m o = move-keeps m (Room shape) (room-kept shape (Touches m)) o (h .state)
+
+  -- so an exact summary stays exact, and the bit of an SPI whose record is not touched stays
+  pub move-exact : (m : Move) → Open shape m s → Exact shape s → Exact shape (moved shape m s)
+  move-exact m o x = move-keeps m (Summed shape) (summed-kept shape (Touches m)) o (h .state, x) .1
 
   pub move-others : (m : Move) → Open shape m s → (t : Slot) → Exists shape t → (Touches m t → ⊥) → wordAt shape t (moved shape m s) ≡ wordAt shape t s
   move-others (Changed v n c) o t x away = put-other shape s t (recordSlot v n) (wordOf (becomes c (recordAt shape v n s))) x (record-exists shape v n (o .there)) away

@@ -5,12 +5,13 @@ use mathlib.Core.List.{List}
 use Prim.Native.Nat.{ℕ, _+_, _-_, _*_, _<_}
 use native.Mathlib.Omega.{arith}
 use Rattle.state.specs.declared.layout.Shape.{Shape}
+use Rattle.state.specs.Words.{Exact}
 use Rattle.state.specs.Lent.{HoldsState}
 use Rattle.state.specs.Loop.{everyBelow}
 use Rattle.state.proofs.Tests.{every-true}
 use Rattle.lawful.specs.Lawful.{Lawful}
-use Rattle.lawful_test.specs.LawfulTest.{numberLawful, stackLawful, vcpuLawful, isLawful}
-use Rattle.lawful_test.proofs.Passing.{both-true, number-passes, stack-passes, passes-lawful}
+use Rattle.lawful_test.specs.LawfulTest.{numberLawful, stackLawful, vcpuLawful, spiLawful, isLawful}
+use Rattle.lawful_test.proofs.Passing.{both-true, number-passes, stack-passes, passes-lawful, bit-passes}
 use Rattle.image.specs.Parts.{Part, Registers, Service, Interrupt, partCount, partAt, PartThere}
 use Rattle.image.proofs.Cases.{service-part, private-part}
 use Rattle.moving.specs.Reads.{LawfulPart}
@@ -25,7 +26,7 @@ module _ (shape : Shape) (s : List ℕ) where
   pub lawful-parts : Lawful shape s → (k : ℕ) → k < partCount shape → LawfulPart shape s (partAt shape k)
   lawful-parts h k b = lawful-part h (partAt shape k) (part-stands shape k (h .in-range .state .limits) b .there)
 
-  module _ (h : HoldsState shape s) (each : (k : ℕ) → k < partCount shape → LawfulPart shape s (partAt shape k)) where
+  module _ (h : HoldsState shape s) (summary : Exact shape s) (each : (k : ℕ) → k < partCount shape → LawfulPart shape s (partAt shape k)) where
     stack-lawful : (v : ℕ) → v < shape .count → stackLawful shape v s ≡ true
     stack-lawful v b = (rw (service-part shape v b) at (each (shape .count + v) (omega arith))) .1
 
@@ -41,7 +42,7 @@ module _ (shape : Shape) (s : List ℕ) where
         both-true (everyBelow (vcpuLawful shape s) (shape .count)) _
         (every-true (vcpuLawful shape s) (shape .count) (λ v b. both-true (stackLawful shape v s) _ (stack-lawful v b)
         (every-true (λ k. numberLawful shape v s (0 + k)) 32 (λ k low. private-lawful v (0 + k) b (omega arith)))))
-        (every-true (λ k. numberLawful shape 0 s (32 + k)) (shape .limit - 32) spi-lawful)
+        (every-true (λ k. spiLawful shape s (32 + k)) (shape .limit - 32) (λ k b. both-true (numberLawful shape 0 s (32 + k)) _ (spi-lawful k b) (bit-passes shape s summary (32 + k) (omega arith) (omega arith))))
 
     pub parts-lawful : Lawful shape s
     parts-lawful = passes-lawful shape s h passes

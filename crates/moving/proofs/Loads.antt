@@ -25,7 +25,7 @@ use Rattle.load.specs.Load.{openedAs, imageShape, stored, loadedTo, loadedAs, l
 use Rattle.moving.proofs.BytesNumbers.{Row}
 use Rattle.moving.proofs.LawfulParts.{lawful-parts, parts-lawful}
 use Rattle.moving.proofs.Opens.{opens, opened-exact}
-use Rattle.moving.proofs.Stored.{PartHeld, stored-length, stored-past, stored-control, stored-reads, stored-held, stored-canonical}
+use Rattle.moving.proofs.Stored.{PartHeld, stored-length, stored-past, stored-control, stored-reads, stored-held, stored-canonical, stored-exact}
 use Rattle.moving.proofs.Walks.{walked-through, walked-reads, walked-bytes, walked-lawful}
 
 -- the bytes were walked through to their end
@@ -91,7 +91,7 @@ module _ (bytes w : List ℕ) (shape : Shape) (control start end : ℕ) (it : Ac
 
     pub held-lawful : Lawful shape held
     held-lawful =
-        parts-lawful shape held (stored-held shape control bytes start w room end (it .whole)) (walked-lawful shape accepted-limits held bytes start held-reads)
+        parts-lawful shape held (stored-held shape control bytes start w room end (it .whole)) (stored-exact shape control bytes start w room end (it .whole)) (walked-lawful shape accepted-limits held bytes start held-reads)
 
     pub held-controls : Controls shape held
     held-controls = record { lawful = held-lawful; canonical = stored-canonical shape control bytes start w room end (it .whole) }

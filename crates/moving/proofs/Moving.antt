@@ -105,7 +105,7 @@ module _ (shape : Shape) (s : List ℕ) (law : Lawful shape s) (w : List ℕ) wh
     -- and of a state as we write it, a controller in use, the words are the same
     pub load-restores-the-words : Canonical shape s → take (size shape) (load (image shape s) w .state) ≡ take (size shape) s
     load-restores-the-words canonical =
-        rw (loads-as h) (sym (same-state shape s restored (law .in-range) (restored-controls .lawful .in-range) control same-parts canonical (restored-controls .canonical)))
+        rw (loads-as h) (sym (same-state shape s restored (law .in-range) (restored-controls .lawful .in-range) control same-parts canonical (restored-controls .canonical) (law .orderly .summary) (restored-controls .lawful .orderly .summary)))
 
 -- so a load is refused by 9 exactly where the bytes are no image of a lawful state
 pub images-are-not-refused-by-9 : (bytes w : List ℕ) → IsImage bytes → load bytes w .refusal ≡ 9 → ⊥

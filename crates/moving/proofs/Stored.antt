@@ -3,19 +3,24 @@
 use mathlib.Core.Path.{_≡_, refl, sym, subst, _∙_}
 use mathlib.Core.Bool.{Bool, true, false}
 use mathlib.Core.List.{List}
-use Prim.Native.Nat.{ℕ, zero, suc, _+_, _*_, _-_, _≤_, _<_}
+use Prim.Native.Nat.{ℕ, zero, suc, _+_, _*_, _-_, _^_, _≤_, _<_}
 use native.Mathlib.Nat.{not-suc-le-zero}
 use native.Mathlib.Omega.{arith}
 use lib.Dec.{ltb}
-use lib.ListN.{length, drop}
+use lib.ListN.{length, getD, drop}
+use lib.Pow.{pow-pos}
 use borrow.Author.Tests.{lt-ltb, le-ltb, ltb-true, ltb-false}
 use Rattle.word.proofs.Cases.{last-or}
 use Rattle.state.specs.declared.layout.Shape.{Shape}
 use Rattle.state.specs.declared.layout.InterfaceValue.the-variants.{Control, PriorityMask, BinaryPoint, Depth}
-use Rattle.state.specs.Layout.{Slot, Count, Limit, DistributorControl, Interface, Sources, Private, Spi, Stack, stackCapacity, size, Exists, Room}
+use Rattle.state.specs.Layout.{Slot, Count, Limit, DistributorControl, Interface, Sources, Private, Spi, Stack, stackCapacity, size, inSummary, Exists, Room}
+use Rattle.state.specs.Loop.{upTo}
 use Rattle.state.specs.Lent.{withShape, HoldsState}
-use Rattle.state.specs.Words.{wordAt, put, recordSlot, keptDistributorControl, distributorControlAt, withDistributorControl, CanonicalWord, Canonical}
-use Rattle.state.proofs.Accessors.{put-length, put-room, put-same, put-other, put-past}
+use Rattle.state.specs.Words.{wordAt, put, recordSlot, keptDistributorControl, distributorControlAt, withDistributorControl, withoutSummary, spisIn, CanonicalWord, Canonical, Exact}
+use Rattle.word.specs.Word.{wordOf}
+use Rattle.state.proofs.Accessors.{put-length, put-room, put-same, put-other, put-past, record-spi}
+use Rattle.state.proofs.Ready.{ExactAt, PutKeeps, Anywhere, ExactBit, exact-kept, put-makes-exact, put-spared}
+use Rattle.state.proofs.Summary.{cleared-length, cleared-room, cleared-past, cleared-slot, cleared-summary}
 use Rattle.state.proofs.SlotKinds.{kinds-apart}
 use Rattle.state.proofs.Steps.{slots, Agree, steps-own, steps-others}
 use Rattle.image.specs.Parts.{Part, Registers, Service, Interrupt, partAt, partCount}
@@ -23,7 +28,10 @@ use Rattle.image.proofs.Cases.{part-registers, service-part, private-part}
 use Rattle.load.specs.declared.walking.Place.{Place}
 use Rattle.load.specs.declared.walking.Place.the-variants.{At, Refused}
 use Rattle.load.specs.Load.{stored}
-use Rattle.load.specs.Walking.{thenPlace, partEnd, partStored, walked, stepStored, partsStored}
+use Rattle.load.specs.declared.reading.FoundRecord.{FoundRecord}
+use Rattle.load.specs.declared.reading.FoundRecord.the-variants as found
+use Rattle.load.specs.Reading.{recordFound}
+use Rattle.load.specs.Walking.{thenPlace, partEnd, partStored, recordEnd, recordStored, walked, stepStored, partsStored}
 use Rattle.moving.specs.Reads.{Reads}
 use Rattle.moving.proofs.StoredPlaces.{partIndex, OfPart, index-spi, Stands, part-stands}
 use Rattle.moving.proofs.StoredParts.{Bounded, up-bounded, Keeps, idle-keeps, part-keeps}
@@ -62,6 +70,20 @@ module _ (shape : Shape) (image : List ℕ) (start : ℕ) where
           subst (λ (j : ℕ). Keeps shape (λ t. partIndex shape t ≡ j) (partStored shape image (partAt shape k) at)) (h .stands)
           (part-keeps shape image (partAt shape k) at (h .there))
 
+-- what one step makes, whatever stood there, and the others keep holds at the end
+up-made : (P Good : List ℕ → Type 0) (f : ℕ → List ℕ → List ℕ) (n k : ℕ) (s : List ℕ) → Good s → k < n → ((i : ℕ) (r : List ℕ) → i < n → Good r → Good (f i r))
+    → ((r : List ℕ) → Good r → P (f k r)) → ((i : ℕ) (r : List ℕ) → i < n → P r → P (f i r)) → P (upTo f n s)
+unfolding upTo
+up-made P Good f zero k s g b good made keeps = absurd (not-suc-le-zero b)
+up-made P Good f (suc n) k s g b good made keeps =
+    last-or k n b
+    (λ e. rw e at (made (upTo f n s) (all n (omega arith))))
+    (λ c. keeps n (upTo f n s) (omega arith) (up-made P Good f n k s g c (λ i r d. good i r (omega arith)) made (λ i r d. keeps i r (omega arith))))
+  where
+    all : (m : ℕ) → m ≤ n → Good (upTo f m s)
+    all zero d = g
+    all (suc m) d = good m (upTo f m s) (omega arith) (all m (omega arith))
+
 -- what is held of part k
 pub record PartHeld (shape : Shape) (image : List ℕ) (start k : ℕ) (s : List ℕ) : Type 0 where
   pub at : ℕ
@@ -71,8 +93,11 @@ pub record PartHeld (shape : Shape) (image : List ℕ) (start k : ℕ) (s : List
   pub reads : Reads shape image (partAt shape k) at next s
 
 module _ (shape : Shape) (control : ℕ) (image : List ℕ) (start : ℕ) (w : List ℕ) (h : Room shape w) where
+  abbrev cleared : List ℕ
+  cleared = withoutSummary shape (withShape shape w)
+
   abbrev base : List ℕ
-  base = withDistributorControl shape control (withShape shape w)
+  base = withDistributorControl shape control cleared
 
   abbrev held : List ℕ
   held = stored shape control image start w
@@ -86,8 +111,11 @@ module _ (shape : Shape) (control : ℕ) (image : List ℕ) (start : ℕ) (w : L
   shaped-room : Room shape (withShape shape w)
   shaped-room = put-room shape counted Limit (shape .limit) counted-room
 
+  emptied-room : Room shape cleared
+  emptied-room = cleared-room shape (withShape shape w) shaped-room
+
   base-room : Room shape base
-  base-room = put-room shape (withShape shape w) DistributorControl (keptDistributorControl control) shaped-room
+  base-room = put-room shape cleared DistributorControl (keptDistributorControl control) emptied-room
 
   steps : (k : ℕ) → k < partCount shape → Keeps shape (λ t. partIndex shape t ≡ k) (stepStored shape image start k)
   steps k b = step-keeps shape image start k (part-stands shape k (h .limits) b)
@@ -98,8 +126,8 @@ module _ (shape : Shape) (control : ℕ) (image : List ℕ) (start : ℕ) (w : L
 
   pub stored-length : length held ≡ length w
   stored-length =
-      stored-bounded .long base ∙ put-length shape (withShape shape w) DistributorControl (keptDistributorControl control)
-      ∙ put-length shape counted Limit (shape .limit) ∙ put-length shape w Count (shape .count)
+      stored-bounded .long base ∙ put-length shape cleared DistributorControl (keptDistributorControl control)
+      ∙ cleared-length shape (withShape shape w) ∙ put-length shape counted Limit (shape .limit) ∙ put-length shape w Count (shape .count)
 
   pub stored-room : Room shape held
   stored-room = record { limits = h .limits; room = rw stored-length (h .room) }
@@ -107,8 +135,8 @@ module _ (shape : Shape) (control : ℕ) (image : List ℕ) (start : ℕ) (w : L
   pub stored-past : drop (size shape) held ≡ drop (size shape) w
   stored-past =
       stored-bounded .past base base-room
-      ∙ put-past shape (withShape shape w) DistributorControl (keptDistributorControl control) (h .limits) tt
-      ∙ put-past shape counted Limit (shape .limit) (h .limits) tt ∙ put-past shape w Count (shape .count) (h .limits) tt
+      ∙ put-past shape cleared DistributorControl (keptDistributorControl control) (h .limits) tt
+      ∙ cleared-past shape (withShape shape w) ∙ put-past shape counted Limit (shape .limit) (h .limits) tt ∙ put-past shape w Count (shape .count) (h .limits) tt
 
   -- the words that are of no part
   stored-header : (t : Slot) → Exists shape t → partIndex shape t ≡ partCount shape → wordAt shape t held ≡ wordAt shape t base
@@ -120,17 +148,19 @@ module _ (shape : Shape) (control : ℕ) (image : List ℕ) (start : ℕ) (w : L
   stored-count : wordAt shape Count held ≡ shape .count
   stored-count =
       stored-header Count tt refl
-      ∙ put-other shape (withShape shape w) Count DistributorControl (keptDistributorControl control) tt tt (kinds-apart Count DistributorControl refl)
+      ∙ put-other shape cleared Count DistributorControl (keptDistributorControl control) tt tt (kinds-apart Count DistributorControl refl)
+      ∙ cleared-slot shape (withShape shape w) Count tt
       ∙ put-other shape counted Count Limit (shape .limit) tt tt (kinds-apart Count Limit refl) ∙ put-same shape w Count (shape .count) h tt
 
   stored-limit : wordAt shape Limit held ≡ shape .limit
   stored-limit =
       stored-header Limit tt refl
-      ∙ put-other shape (withShape shape w) Limit DistributorControl (keptDistributorControl control) tt tt (kinds-apart Limit DistributorControl refl)
+      ∙ put-other shape cleared Limit DistributorControl (keptDistributorControl control) tt tt (kinds-apart Limit DistributorControl refl)
+      ∙ cleared-slot shape (withShape shape w) Limit tt
       ∙ put-same shape counted Limit (shape .limit) counted-room tt
 
   control-word : wordAt shape DistributorControl held ≡ keptDistributorControl control
-  control-word = stored-header DistributorControl tt refl ∙ put-same shape (withShape shape w) DistributorControl (keptDistributorControl control) shaped-room tt
+  control-word = stored-header DistributorControl tt refl ∙ put-same shape cleared DistributorControl (keptDistributorControl control) emptied-room tt
 
   pub stored-control : control ≤ 1 → distributorControlAt shape held ≡ control
   stored-control most = rw control-word (omega arith)
@@ -200,6 +230,42 @@ module _ (shape : Shape) (control : ℕ) (image : List ℕ) (start : ℕ) (w : L
     written (Spi n) e = rw (le-ltb n 32 (e .0)) at (spi-as n (e .0) (e .1) .word)
     written (Stack v i) e = entry-as v i (e .0) (e .1)
 
-    -- .. and is as we write it
+    -- .. and is as we write it: the bits start from none
     pub stored-canonical : Canonical shape held
-    stored-canonical = record { written = written; cleared = λ v i b deep c. service-as v b .cleared i deep c }
+    stored-canonical = record { written = written; cleared = λ v i b deep c. service-as v b .cleared i deep c; spared = spared }
+      where
+        Spared : ℕ → List ℕ → Type 0
+        Spared k s = Room shape s × (getD s k 0 < 2 ^ spisIn shape k)
+
+        kept : (k : ℕ) → inSummary shape k ≡ true → PutKeeps shape Anywhere (Spared k)
+        kept k on t x s e m p = (put-room shape s t x (p .0), put-spared shape s (p .0) t x k e on (p .1))
+
+        spared : (k : ℕ) → inSummary shape k ≡ true → getD held k 0 < 2 ^ spisIn shape k
+        spared k on =
+            stored-bounded .puts (Spared k) (kept k on) base
+            (kept k on DistributorControl (keptDistributorControl control) cleared tt tt (emptied-room, rw (cleared-summary shape (withShape shape w) shaped-room k on) (pow-pos (spisIn shape k)))) .1
+
+    -- .. and exact: each SPI's bit was made with its record, and stays
+    spi-stored : (n at next : ℕ) (s : List ℕ) → Exists shape (Spi n) → Room shape s → partEnd shape image (Interrupt (record { 0 = 0 }) (record { 0 = n })) at ≡ At next
+        → ExactAt shape n (partStored shape image (Interrupt (record { 0 = 0 }) (record { 0 = n })) at s)
+    spi-stored n at next s e room ends = go (recordFound shape 0 n image at) ends
+      where
+        go : (f : FoundRecord) → recordEnd f ≡ At next → ExactAt shape n (recordStored shape 0 n f s)
+        go found.Refused p = let z : _≡_ {A = ℕ} 0 1 = cc in absurd (omega arith)
+        go (found.Read r x end) p =
+            rw (le-ltb n 16 (omega arith), record-spi 0 n (le-ltb n 32 (e .0))) (put-makes-exact shape s room n (wordOf r) e)
+
+    pub stored-exact : Exact shape held
+    unfolding partsStored
+    stored-exact = record {
+      exact = λ n e.
+          up-made (ExactBit shape n) (Room shape) (stepStored shape image start) (partCount shape) (34 * shape .count + (n - 32)) base base-room (omega arith)
+          (λ i s b room. steps i b .local .room s room)
+          (λ s room. (steps (34 * shape .count + (n - 32)) (omega arith) .local .room s room, made n e s room))
+          (λ i s b p. steps i b .bounded .puts (ExactBit shape n) (exact-kept shape Anywhere n e) s p) .1;
+    }
+      where
+        made : (n : ℕ) → Exists shape (Spi n) → (s : List ℕ) → Room shape s → ExactAt shape n (stepStored shape image start (34 * shape .count + (n - 32)) s)
+        made n e s room =
+            let p = passed shape image start (partCount shape) end whole (34 * shape .count + (n - 32)) (omega arith) in
+            rw (p .before, index-spi shape n (e .0)) (spi-stored n (p .at) (p .next) s e room (rw (index-spi shape n (e .0)) at (p .ends)))

@@ -16,6 +16,7 @@ use Rattle.state.specs.Layout.{Slot, Interface, Sources, Stack, stackCapacity, 
 use Rattle.state.specs.Loop.{upTo}
 use Rattle.state.specs.Words.{put, recordSlot, RecordThere, withRecord, withSources, withoutEntry}
 use Rattle.state.proofs.Accessors.{put-length, put-past, record-exists}
+use Rattle.state.proofs.Ready.{PutKeeps, Anywhere}
 use Rattle.state.proofs.Numbers.{then-local, put-local}
 use Rattle.state.proofs.Steps.{Local}
 use Rattle.image.specs.Parts.{Part, Registers, Service, Interrupt, PartThere}
@@ -30,16 +31,18 @@ use Rattle.load.specs.Walking.{registersStored, entryIn, entrySpot, entryStored
 use Rattle.moving.proofs.StoredPlaces.{partIndex, OfPart}
 use Rattle.moving.proofs.StoredRanges.{number-most}
 
--- steps that leave the length and the words past the state
-pub record Bounded (shape : Shape) (f : List ℕ → List ℕ) : Type 0 where
+-- steps that leave the length and the words past the state, and keep what every write of a slot keeps
+pub record Bounded (shape : Shape) (f : List ℕ → List ℕ) : Type 1 where
+  pub puts : (P : List ℕ → Type 0) → PutKeeps shape Anywhere P → (s : List ℕ) → P s → P (f s)
   pub long : (s : List ℕ) → length (f s) ≡ length s
   pub past : (s : List ℕ) → Room shape s → drop (size shape) (f s) ≡ drop (size shape) s
 
 idle-bounded : {shape : Shape} → Bounded shape (λ s. s)
-idle-bounded = record { long = λ s. refl; past = λ s h. refl }
+idle-bounded = record { puts = λ P keeps s p. p; long = λ s. refl; past = λ s h. refl }
 
 then-bounded : {shape : Shape} {f g : List ℕ → List ℕ} → Bounded shape f → Bounded shape g → Bounded shape (λ s. g (f s))
 then-bounded {f = f} bf bg = record {
+  puts = λ P keeps s p. bg .puts P keeps (f s) (bf .puts P keeps s p);
   long = λ s. bg .long (f s) ∙ bf .long s;
   past = λ s h. bg .past (f s) (record { limits = h .limits; room = rw (bf .long s) (h .room) }) ∙ bf .past s h;
 }
@@ -50,7 +53,7 @@ up-bounded f zero steps = idle-bounded
 up-bounded f (suc n) steps = then-bounded (up-bounded f n (λ i b. steps i (omega arith))) (steps n (omega arith))
 
 -- .. and keep to some slots
-pub record Keeps (shape : Shape) (Mine : Slot → Type 0) (f : List ℕ → List ℕ) : Type 0 where
+pub record Keeps (shape : Shape) (Mine : Slot → Type 0) (f : List ℕ → List ℕ) : Type 1 where
   pub local : Local shape Mine f
   pub bounded : Bounded shape f
 
@@ -68,7 +71,7 @@ up-keeps f (suc n) steps = then-keeps (up-keeps f n (λ i b. steps i (omega arit
 pub word-keeps : (shape : Shape) (Mine : Slot → Type 0) (u : Slot) (x : ℕ) → Exists shape u → Mine u → Keeps shape Mine (put shape u x)
 word-keeps shape Mine u x e m = record {
   local = put-local shape Mine u (λ _. x) e m (λ _ _ _. refl);
-  bounded = record { long = λ s. put-length shape s u x; past = λ s h. put-past shape s u x (h .limits) e };
+  bounded = record { puts = λ P keeps s p. keeps u x s e tt p; long = λ s. put-length shape s u x; past = λ s h. put-past shape s u x (h .limits) e };
 }
 
 pub entry-keeps : (shape : Shape) (Mine : Slot → Type 0) (v i : ℕ) (f : FoundEntry) → Exists shape (Stack v i) → Mine (Stack v i) → Keeps shape Mine (entryStored shape v i f)

@@ -13,7 +13,7 @@ use Rattle.state.specs.declared.layout.Shape.{Shape}
 use Rattle.state.specs.declared.layout.InterfaceValue.the-variants.{Control, PriorityMask, BinaryPoint, Depth}
 use Rattle.state.specs.Layout.{Slot, Count, Limit, DistributorControl, Interface, Sources, Private, Spi, Stack, stackCapacity, size, Exists}
 use Rattle.state.specs.Lent.{HoldsState}
-use Rattle.state.specs.Words.{wordAt, recordSlot, distributorControlAt, entryWord, rewritten, Canonical}
+use Rattle.state.specs.Words.{wordAt, recordSlot, distributorControlAt, entryWord, rewritten, Canonical, Exact}
 use Rattle.state.proofs.Equal.{canonical-equal}
 use Rattle.service.specs.Service.{depthAt}
 use Rattle.image.specs.Parts.{Part, Registers, Service, Interrupt, partAt, partCount}
@@ -70,5 +70,5 @@ module _ (shape : Shape) (s r : List ℕ) (hs : HoldsState shape s) (hr : HoldsS
       go true p = same-meaning (Stack v i) e (ltb-true i (depthAt shape v s) p)
       go false p = ap (rewritten (Stack v i)) (same-unused cs cr v i (e .0) (e .1) (ltb-false i (depthAt shape v s) p))
 
-  pub same-state : Canonical shape s → Canonical shape r → take (size shape) s ≡ take (size shape) r
-  same-state cs cr = canonical-equal shape s r (hs .state) (hr .state) cs cr (same-written cs cr)
+  pub same-state : Canonical shape s → Canonical shape r → Exact shape s → Exact shape r → take (size shape) s ≡ take (size shape) r
+  same-state cs cr xs xr = canonical-equal shape s r (hs .state) (hr .state) cs cr xs xr (same-written cs cr)

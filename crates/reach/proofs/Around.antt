@@ -3,25 +3,52 @@
 use mathlib.Core.Path.{_≡_, refl, ap, _∙_}
 use mathlib.Core.Bool.{Bool, true, false, cond}
 use mathlib.Core.List.{List}
-use Prim.Native.Nat.{ℕ, zero, suc, _<_}
+use mathlib.Core.Option.{Option, none, some}
+use Prim.Native.Nat.{ℕ, zero, suc, _%_, _≤_, _<_}
 use native.Mathlib.Omega.{arith}
-use lib.ListN.{length}
+use lib.ListN.{length, getD, set, length-set}
+use Rattle.interrupt.specs.Record.{isReady}
 use Rattle.interrupt.specs.declared.record.InterruptRecord.{InterruptRecord}
-use Rattle.word.specs.Word.{wordOf}
+use Rattle.word.specs.Word.{recordOf, wordOf}
 use Rattle.state.specs.declared.layout.Shape.{Shape}
-use Rattle.state.specs.Layout.{Slot, Exists, Room}
+use Rattle.state.specs.Layout.{Slot, summaryPlace, size, place, Exists, Room, spiOf}
 use Rattle.state.specs.Loop.{upTo}
-use Rattle.state.specs.Words.{put, recordSlot, RecordThere, recordAt, changed}
+use Rattle.state.specs.Words.{withBit, summaryAt, withReadyBit, summed, put, recordSlot, RecordThere, recordAt, changed}
 use Rattle.state.proofs.Accessors.{put-length, record-exists}
-use Rattle.state.proofs.Places.{Inner}
-use Rattle.state.proofs.Steps.{Agree}
-use Rattle.reach.proofs.Readings.{record-inner, record-alike}
+use Rattle.state.proofs.Places.{Inner, inner-place, place-inside, summary-from, bit-in-summary}
+use Rattle.state.proofs.Summary.{SpiThere, spi-there}
+use Rattle.reach.proofs.Readings.{Alike, record-inner, record-alike}
 
 -- a change of lent words that no slot sees but the count's and the limit's: each other reads as before, and a word may as well be put before the
 -- change as after it
 pub record Around (shape : Shape) (wrap : List ℕ → List ℕ) : Type 0 where
-  pub alike : (s : List ℕ) → Room shape s → Agree shape Inner (wrap s) s
+  pub alike : (s : List ℕ) → Room shape s → Alike shape (wrap s) s
   pub puts : (s : List ℕ) → Room shape s → (t : Slot) → Exists shape t → Inner t → (w : ℕ) → put shape t w (wrap s) ≡ wrap (put shape t w s)
+
+-- it is one that leaves each word from the third on in its place
+pub record Placewise (shape : Shape) (wrap : List ℕ → List ℕ) : Type 0 where
+  pub gets : (s : List ℕ) → Room shape s → (k : ℕ) → 2 ≤ k → k < size shape → getD (wrap s) k 0 ≡ getD s k 0
+  pub sets : (s : List ℕ) → Room shape s → (k w : ℕ) → 2 ≤ k → k < size shape → set (wrap s) k w ≡ wrap (set s k w)
+
+pub placewise-around : (shape : Shape) (wrap : List ℕ → List ℕ) → Placewise shape wrap → Around shape wrap
+unfolding withReadyBit
+placewise-around shape wrap p = record {
+  alike = λ s h. record {
+    agree = λ t e inner. p .gets s h (place shape t) (inner-place shape t inner) (place-inside shape t (h .limits) e);
+    summary = λ k on. let from = summary-from shape k on in p .gets s h k (omega arith) (omega arith);
+  };
+  puts = λ s h t e inner w. go (spiOf t) (spi-there shape t e) w (set (wrap s) (place shape t) w) (set s (place shape t) w)
+      (record { limits = h .limits; room = rw (length-set s (place shape t) w) (h .room) })
+      (p .sets s h (place shape t) w (inner-place shape t inner) (place-inside shape t (h .limits) e));
+}
+  where
+    go : (o : Option ℕ) → SpiThere shape o → (w : ℕ) (r s : List ℕ) → Room shape s → r ≡ wrap s → summed shape o w r ≡ wrap (summed shape o w s)
+    go none there w r s h e = e
+    go (some n) there w r s h e =
+        let from = summary-from shape (summaryPlace shape n) (bit-in-summary shape n there) in
+        ap (summed shape (some n) w) e
+        ∙ ap (λ (x : ℕ). set (wrap s) (summaryPlace shape n) (withBit (n % 32) (isReady (recordOf w)) x)) (p .gets s h (summaryPlace shape n) (omega arith) (omega arith))
+        ∙ p .sets s h (summaryPlace shape n) (withBit (n % 32) (isReady (recordOf w)) (summaryAt shape n s)) (omega arith) (omega arith)
 
 -- a write that may as well come before the change as after it, and leaves as many words as there were
 pub record Passes (wrap g : List ℕ → List ℕ) (s : List ℕ) : Type 0 where

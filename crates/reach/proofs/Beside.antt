@@ -11,21 +11,17 @@ use Rattle.state.specs.declared.layout.Shape.{Shape}
 use Rattle.state.specs.declared.lent.Lent.the-variants.{Sound}
 use Rattle.state.specs.Layout.{Slot, place, Exists, Room}
 use Rattle.state.specs.Lent.{validated}
-use Rattle.state.proofs.Places.{place-inside, inner-place}
 use Rattle.state.proofs.Validated.{validated-held}
 use Rattle.history.specs.History.{Call, isStart, called}
-use Rattle.reach.proofs.Around.{Around}
+use Rattle.reach.proofs.Around.{Around, placewise-around}
 use Rattle.reach.proofs.Calls.{call-carries}
 
 -- words behind the state
 pub behind : (shape : Shape) (x : List ℕ) → Around shape (λ s. s ++ x)
-behind shape x = record {
-  alike = λ s h. record { agree = λ t e inner. List·getD-append s x 0 (place shape t) (inside s h t e) };
-  puts = λ s h t e inner w. set-append-left s x (place shape t) w (inside s h t e);
-}
-  where
-    inside : (s : List ℕ) → Room shape s → (t : Slot) → Exists shape t → place shape t < length s
-    inside s h t e = omega (arith, place-inside shape t (h .limits) e, h .room)
+behind shape x = placewise-around shape (λ s. s ++ x) (record {
+  gets = λ s h k from b. List·getD-append s x 0 k (let r = h .room in omega arith);
+  sets = λ s h k w from b. set-append-left s x k w (let r = h .room in omega arith);
+})
 
 -- the first two words
 module _ (count limit : ℕ) where
@@ -47,10 +43,7 @@ module _ (count limit : ℕ) where
   headed-set (a ∷ b ∷ s) (suc (suc k)) w h = refl
 
   before : (shape : Shape) → Around shape headed
-  before shape = record {
-    alike = λ s h. record { agree = λ t e inner. headed-get s (place shape t) (inner-place shape t inner) };
-    puts = λ s h t e inner w. headed-set s (place shape t) w (inner-place shape t inner);
-  }
+  before shape = placewise-around shape headed (record { gets = λ s h k from b. headed-get s k from; sets = λ s h k w from b. headed-set s k w from })
 
 -- a state has them
 own-head : (s : List ℕ) → 2 ≤ length s → headed (getD s 0 0) (getD s 1 0) s ≡ s

@@ -21,8 +21,6 @@ use Rattle.word.specs.Word.{bitOf, wordOf}
 use Rattle.state.specs.declared.layout.Shape.{Shape}
 use Rattle.state.specs.Layout.{DistributorControl}
 use Rattle.state.specs.Words.{keptDistributorControl, RecordThere, recordAt, changed, enabledAt}
-use Rattle.state.proofs.Places.{Inner}
-use Rattle.state.proofs.Steps.{Agree}
 use Rattle.service.specs.Service.{Sound}
 use Rattle.places.specs.Places.{sends, readPlaceLooksUp, writePlaceLooksUp, readClass, writeClass, readPlace, writePlace, PlaceRead, PlaceWritten}
 use Rattle.places.proofs.Fits.{bit-word, byte-run}
@@ -34,7 +32,7 @@ use Rattle.input.specs.declared.InputNumber.{InputNumber}
 use Rattle.input.specs.declared.InputNumber.the-variants.{Device, Outside}
 use Rattle.input.specs.Input.{signalled, inputOf, inputAt, deviceInput}
 use Rattle.input.proofs.Passed.{input-there, changed-sound}
-use Rattle.reach.proofs.Readings.{record-alike, control-alike, enabled-alike, bits-alike, bytes-alike, acknowledge-alike}
+use Rattle.reach.proofs.Readings.{Alike, record-alike, control-alike, enabled-alike, bits-alike, bytes-alike, acknowledge-alike}
 use Rattle.reach.proofs.Images.{lawful-alike, image-alike}
 use Rattle.reach.proofs.Around.{Around, Passes, none-passes, if-through, put-through, changed-through}
 use Rattle.reach.proofs.Distributor.{bits-through, bytes-through, sgir-through}
@@ -62,7 +60,7 @@ use Rattle.history.specs.History.{Call, Setup, ReadDistributor, WriteDistributo
 use Rattle.reach.proofs.Registers.{register-read, register-written}
 
 module _ {shape : Shape} {wrap : List ℕ → List ℕ} (around : Around shape wrap) (s : List ℕ) (h : Sound shape s) where
-  abbrev same : Agree shape Inner (wrap s) s
+  abbrev same : Alike shape (wrap s) s
   same = around .alike s (h .state)
 
   -- the Distributor

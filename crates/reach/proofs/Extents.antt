@@ -16,8 +16,8 @@ use Rattle.state.specs.declared.lent.Limited.the-variants.{Within, Outside}
 use Rattle.state.specs.declared.lent.Lent.{Lent}
 use Rattle.state.specs.declared.lent.Lent.the-variants.{Sound, Broken}
 use Rattle.state.specs.Fresh.{startedAt, fresh}
-use Rattle.state.specs.Words.{startOf}
-use Rattle.state.specs.Layout.{Interface, size, slotAt, Room, stackCapacity}
+use Rattle.state.specs.Words.{startAt}
+use Rattle.state.specs.Layout.{Interface, size, Room, stackCapacity}
 use Rattle.state.specs.Lent.{limited, storedShape, depthFits, lentAs, validated}
 use Rattle.state.specs.Loop.{upTo}
 use Rattle.state.proofs.Starting.{fresh-length}
@@ -79,14 +79,14 @@ module _ (a x : List ℕ) where
     started-long : (n : ℕ) → length (upTo (startedAt shape) n a) ≡ length a
     unfolding upTo
     started-long zero = refl
-    started-long (suc n) = length-set (upTo (startedAt shape) n a) n (startOf shape (slotAt shape n)) ∙ started-long n
+    started-long (suc n) = length-set (upTo (startedAt shape) n a) n (startAt shape n) ∙ started-long n
 
     started-same : (n : ℕ) → n ≤ length a → upTo (startedAt shape) n (a ++ x) ≡ upTo (startedAt shape) n a ++ x
     unfolding upTo
     started-same zero k = refl
     started-same (suc n) k =
         ap (startedAt shape n) (started-same n (omega arith))
-        ∙ set-append-left (upTo (startedAt shape) n a) x n (startOf shape (slotAt shape n)) (rw (started-long n) k)
+        ∙ set-append-left (upTo (startedAt shape) n a) x n (startAt shape n) (rw (started-long n) k)
 
     fresh-same : fresh shape (a ++ x) ≡ fresh shape a ++ x
     unfolding fresh
@@ -148,4 +148,4 @@ call-long c s =
     other-long : (d : Call) → isStart d ≡ false → length (called d s .state) ≡ length s
     other-long =
         any-words s (λ d o. length (o .state) ≡ length s) (λ d e. refl)
-        (λ shape p d e. call-carries {shape = shape} {wrap = λ r. r} (record { alike = λ r h. record { agree = λ t x inner. refl }; puts = λ r h t x inner w. refl }) s p p d e .long)
+        (λ shape p d e. call-carries {shape = shape} {wrap = λ r. r} (record { alike = λ r h. record { agree = λ t x inner. refl; summary = λ k on. refl }; puts = λ r h t x inner w. refl }) s p p d e .long)

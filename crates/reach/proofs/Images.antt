@@ -17,9 +17,10 @@ use Rattle.state.specs.Words.{RecordThere, recordAt, sourcesAt, entryOf, entryA
 use Rattle.state.proofs.Places.{Inner}
 use Rattle.state.proofs.Steps.{Agree}
 use Rattle.service.specs.Service.{depthAt, stackTo, runningOf, Sound}
-use Rattle.lawful_test.specs.LawfulTest.{implied, recordLawful, sourcesLawful, numberLawful, entryLawful, entryLawfulAt, stackLawful, vcpuLawful, isLawful}
+use Rattle.interrupt.specs.Record.{isReady}
+use Rattle.lawful_test.specs.LawfulTest.{implied, recordLawful, sourcesLawful, numberLawful, entryLawful, entryLawfulAt, stackLawful, vcpuLawful, saysSame, spiLawful, isLawful}
 use Rattle.image.specs.Image.{each, entryNumbers, interfaceNumbers, serviceNumbers, recordNumbers, privateNumbersAt, spiNumbers, spiNumbersAt, bodyNumbers, image}
-use Rattle.reach.proofs.Readings.{when, record-alike, control-alike, interface-alike, sources-alike}
+use Rattle.reach.proofs.Readings.{Alike, when, record-alike, bit-alike, control-alike, interface-alike, sources-alike}
 
 -- what is the same one by one
 each-same : (f g : ℕ → List ℕ) (n : ℕ) → ((i : ℕ) → i < n → f i ≡ g i) → each f n ≡ each g n
@@ -32,7 +33,7 @@ unfolding everyBelow
 every-same f g zero same = refl
 every-same f g (suc n) same = λ i. every-same f g n (λ k h. same k (omega arith)) i && same n (omega arith) i
 
-module _ {shape : Shape} {r s : List ℕ} (same : Agree shape Inner r s) (h : Sound shape s) where
+module _ {shape : Shape} {r s : List ℕ} (same : Alike shape r s) (h : Sound shape s) where
   -- an interrupt's
   number-alike : (v n : ℕ) → RecordThere shape v n → numberLawful shape v r n ≡ numberLawful shape v s n
   unfolding numberLawful
@@ -88,11 +89,15 @@ module _ {shape : Shape} {r s : List ℕ} (same : Agree shape Inner r s) (h : So
     vcpu-alike : vcpuLawful shape r v ≡ vcpuLawful shape s v
     vcpu-alike = λ j. stack-alike j && every-same (λ k. numberLawful shape v r (0 + k)) (λ k. numberLawful shape v s (0 + k)) 32 (λ k low. number-alike v (0 + k) (private-there (0 + k) (omega arith))) j
 
+  spi-alike : (k : ℕ) → k < shape .limit - 32 → spiLawful shape r (32 + k) ≡ spiLawful shape s (32 + k)
+  spi-alike k b =
+      λ j. number-alike 0 (32 + k) (spi-there k b) j && saysSame (bit-alike same (32 + k) (omega arith, omega arith) j) (isReady (record-alike same 0 (32 + k) (spi-there k b) j))
+
   pub lawful-alike : isLawful shape r ≡ isLawful shape s
   unfolding isLawful
   lawful-alike =
       λ j. every-same (vcpuLawful shape r) (vcpuLawful shape s) (shape .count) vcpu-alike j
-      && every-same (λ k. numberLawful shape 0 r (32 + k)) (λ k. numberLawful shape 0 s (32 + k)) (shape .limit - 32) (λ k b. number-alike 0 (32 + k) (spi-there k b)) j
+      && every-same (λ k. spiLawful shape r (32 + k)) (λ k. spiLawful shape s (32 + k)) (shape .limit - 32) (λ k b. spi-alike k b) j
 
   body-alike : bodyNumbers shape r ≡ bodyNumbers shape s
   unfolding bodyNumbers

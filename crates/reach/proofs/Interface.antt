@@ -14,8 +14,6 @@ use Rattle.state.specs.declared.layout.InterfaceValue.the-variants.{Depth}
 use Rattle.state.specs.declared.words.Entry.{Entry}
 use Rattle.state.specs.Layout.{Interface, Stack, Room, stackCapacity}
 use Rattle.state.specs.Words.{RecordThere, recordAt, changed, sourcesAt, kept, withInterface, entryWord, withEntry, withoutEntry}
-use Rattle.state.proofs.Places.{Inner}
-use Rattle.state.proofs.Steps.{Agree}
 use Rattle.state.proofs.Tests.{left-true}
 use Rattle.sgi.specs.Sgi.{mergedSources}
 use Rattle.select.specs.declared.Candidate.{Candidate}
@@ -26,7 +24,7 @@ use Rattle.service.proofs.Stacks.{newest-some}
 use Rattle.acknowledge.specs.Acknowledge.{groupOf, offer, sourceOf, pendIfLeft, sourceTaken, givenRecord, pushedFor, given, taken, acknowledged}
 use Rattle.acknowledge.proofs.Offers.{offer-below}
 use Rattle.end.specs.End.{servedHere, onlyActive, retire, deactivated, retired, deactivates, ended, endRetired}
-use Rattle.reach.proofs.Readings.{interface-alike, sources-alike, group-of-alike, source-of-alike, tested-alike, stack-alike, offer-alike, retired-alike, deactivates-alike}
+use Rattle.reach.proofs.Readings.{Alike, interface-alike, sources-alike, group-of-alike, source-of-alike, tested-alike, stack-alike, offer-alike, retired-alike, deactivates-alike}
 use Rattle.reach.proofs.Around.{Around, Passes, Through, long-room, none-passes, then-passes, choice-passes, with-passes, then-through, if-through, put-through, changed-through}
 use Rattle.reach.proofs.Distributor.{sources-through}
 
@@ -50,7 +48,7 @@ module _ {shape : Shape} {wrap : List ℕ → List ℕ} (around : Around shape w
       own c e = there (ltb-true n (shape .limit) (left-true (ltb n (shape .limit)) c e))
 
   module _ (s : List ℕ) (h : Served shape v s) where
-    abbrev same : Agree shape Inner (wrap s) s
+    abbrev same : Alike shape (wrap s) s
     same = around .alike s (h .state)
 
     abbrev depth : ℕ

@@ -6,35 +6,41 @@ use mathlib.Core.List.{List}
 use Prim.Native.Nat.{ℕ, zero, suc, _+_, _*_, _/_, _%_, _≤_, _<_}
 use native.Mathlib.Omega.{arith}
 use lib.Dec.{eqb, ltb}
+use lib.ListN.{getD}
 use borrow.Author.Tests.{ltb-true, ltb-false}
+use Rattle.interrupt.specs.Record.{isReady}
 use Rattle.interrupt.specs.declared.record.InterruptRecord.{InterruptRecord}
 use Rattle.register.specs.declared.ranges.BitRegister.{BitRegister}
 use Rattle.register.specs.declared.ranges.ByteRegister.{ByteRegister}
 use Rattle.register.specs.declared.ranges.ByteRegister.the-variants.{Ipriorityr, Itargetsr, Cpendsgir, Spendsgir}
-use Rattle.word.specs.Word.{bitOf, maskByte, recordOf}
+use Rattle.word.specs.Word.{bitOf, flag, maskByte, recordOf}
 use Rattle.word.proofs.Gathered.{gathered-same}
 use Rattle.state.specs.declared.layout.Shape.{Shape}
 use Rattle.state.specs.declared.layout.InterfaceValue.{InterfaceValue}
 use Rattle.state.specs.declared.layout.InterfaceValue.the-variants.{Control, PriorityMask, BinaryPoint, Depth}
-use Rattle.state.specs.Layout.{DistributorControl, Interface, Sources, Stack, stackCapacity}
-use Rattle.state.specs.Words.{recordSlot, RecordThere, recordAt, sourcesAt, kept, interfaceAt, keptDistributorControl, distributorControlAt, enableBit, enabledAt}
+use Rattle.state.specs.Layout.{Slot, DistributorControl, Interface, Sources, Spi, Stack, summaryPlace, stackCapacity, inSummary, Exists}
+use Rattle.state.specs.Words.{wordAt, recordSlot, RecordThere, recordAt, readyBit, sourcesAt, kept, interfaceAt, keptDistributorControl, distributorControlAt, enableBit, enabledAt}
 use Rattle.state.proofs.Accessors.{record-exists}
-use Rattle.state.proofs.Places.{Inner}
+use Rattle.state.proofs.Places.{Inner, bit-in-summary}
 use Rattle.state.proofs.SlotKinds.{record-kind}
-use Rattle.state.proofs.Steps.{Agree}
 use Rattle.bits.specs.Bits.{fieldBits, perWord, readField, readNumber, readBits}
 use Rattle.targets.specs.Targets.{ownByte, readTarget}
 use Rattle.distributor.specs.Bytes.{readPriority, readByte, readBytes, ByteThere}
 use Rattle.select.specs.declared.Candidate.{Candidate}
 use Rattle.select.specs.declared.Selected.{Selected}
 use Rattle.select.specs.declared.Selected.the-variants.{Best, Nothing}
-use Rattle.select.specs.Select.{eligible, candidate, better, bestBelow, best, bothOn, selectedNumber, highestPending}
+use Rattle.select.specs.Select.{eligible, readyAt, candidate, better, bestAmong, bestBelow, best, bothOn, selectedNumber, highestPending}
 use Rattle.service.specs.Service.{depthAt, stackAt, runningOf, running, isNewest, Sound}
 use Rattle.service.proofs.Stacks.{stack-same}
 use Rattle.acknowledge.specs.declared.Read.the-variants.{Value, StackFull}
 use Rattle.acknowledge.specs.Acknowledge.{groupPriority, groupOf, preempts, preempting, offer, lowestSource, sourceOf, answered, acknowledge}
 use Rattle.end.specs.End.{servedHere, retired, deactivates}
 use Rattle.wake.specs.Wake.{isSpurious, givesNumber, woken, wakeSet}
+
+-- words that agree but for the count and the limit, in the summary as well
+pub record Alike (shape : Shape) (r s : List ℕ) : Type 0 where
+  pub agree : (t : Slot) → Exists shape t → Inner t → wordAt shape t r ≡ wordAt shape t s
+  pub summary : (k : ℕ) → inSummary shape k ≡ true → getD r k 0 ≡ getD s k 0
 
 pub record-inner : (v n : ℕ) → Inner (recordSlot v n)
 record-inner v n = rw (record-kind v n) (omega arith)
@@ -44,12 +50,16 @@ pub when : {X : Type 0} {x y : X} (b : Bool) (z : X) → (b ≡ true → x ≡ y
 when true z f = f refl
 when false z f = refl
 
-module _ {shape : Shape} {r s : List ℕ} (same : Agree shape Inner r s) where
+module _ {shape : Shape} {r s : List ℕ} (same : Alike shape r s) where
   pub record-alike : (v n : ℕ) → RecordThere shape v n → recordAt shape v n r ≡ recordAt shape v n s
   record-alike v n there = ap recordOf (same .agree (recordSlot v n) (record-exists shape v n there) (record-inner v n))
 
   pub control-alike : distributorControlAt shape r ≡ distributorControlAt shape s
   control-alike = ap keptDistributorControl (same .agree DistributorControl tt (omega arith))
+
+  pub bit-alike : (n : ℕ) → Exists shape (Spi n) → readyBit shape n r ≡ readyBit shape n s
+  unfolding readyBit
+  bit-alike n e = ap (flag (n % 32)) (same .summary (summaryPlace shape n) (bit-in-summary shape n e))
 
   pub enabled-alike : enabledAt shape r ≡ enabledAt shape s
   enabled-alike = ap enableBit control-alike
@@ -96,12 +106,19 @@ module _ {shape : Shape} {r s : List ℕ} (same : Agree shape Inner r s) where
     pub sources-alike : (n : ℕ) → n < 16 → sourcesAt shape v n r ≡ sourcesAt shape v n s
     sources-alike n sgi = ap (λ (w : ℕ). w % 256) (same .agree (Sources v n) (exists, sgi) (omega arith))
 
+    ready-alike : (n : ℕ) → n < shape .limit → readyAt shape v r n ≡ readyAt shape v s n
+    ready-alike n h = go (ltb n 32) refl
+      where
+        go : (b : Bool) → ltb n 32 ≡ b → cond b (isReady (recordAt shape v n r)) (readyBit shape n r) ≡ cond b (isReady (recordAt shape v n s)) (readyBit shape n s)
+        go true e = ap isReady (record-alike v n (there h))
+        go false e = bit-alike n (ltb-false n 32 e, h)
+
     best-alike : (n : ℕ) → n ≤ shape .limit → bestBelow shape v r n ≡ bestBelow shape v s n
-    unfolding bestBelow candidate
+    unfolding bestAmong candidate
     best-alike zero h = refl
     best-alike (suc n) h =
         let own : recordAt shape v n r ≡ recordAt shape v n s = record-alike v n (there (omega arith)) in
-        λ i. better (eligible (interface-alike PriorityMask i) v n (own i)) (record { intid = record { 0 = n }; priority = own i .priority }) (best-alike n (omega arith) i)
+        λ i. better (eligible (interface-alike PriorityMask i) v n (ready-alike n (omega arith) i) (own i)) (record { intid = record { 0 = n }; priority = own i .priority }) (best-alike n (omega arith) i)
 
     both-alike : bothOn shape v r ≡ bothOn shape v s
     both-alike = λ i. enabled-alike i && enableBit (interface-alike Control i)
@@ -162,7 +179,7 @@ module _ {shape : Shape} {r s : List ℕ} (same : Agree shape Inner r s) where
       acknowledge-alike = answered-alike (offer shape v r) ∙ ap (answered shape v s) offer-alike
 
 -- the wake set, before and after a call
-pub wakes-alike : {shape : Shape} {before before₁ after after₁ : List ℕ} → Agree shape Inner before before₁ → Agree shape Inner after after₁ → Sound shape before₁ → Sound shape after₁
+pub wakes-alike : {shape : Shape} {before before₁ after after₁ : List ℕ} → Alike shape before before₁ → Alike shape after after₁ → Sound shape before₁ → Sound shape after₁
     → wakeSet shape before after ≡ wakeSet shape before₁ after₁
 unfolding wakeSet
 wakes-alike {shape} {before} {before₁} {after} {after₁} same same₁ h h₁ =

@@ -13,8 +13,6 @@ use Rattle.state.specs.declared.layout.Shape.{Shape}
 use Rattle.state.specs.declared.layout.InterfaceValue.{InterfaceValue}
 use Rattle.state.specs.declared.layout.InterfaceValue.the-variants.{Control, PriorityMask, BinaryPoint}
 use Rattle.state.specs.Words.{interfaceAt, withInterface, enabledAt}
-use Rattle.state.proofs.Places.{Inner}
-use Rattle.state.proofs.Steps.{Agree}
 use Rattle.distributor.specs.Values.{iidr}
 use Rattle.select.specs.Select.{highestPending}
 use Rattle.service.specs.Service.{running, Sound}
@@ -25,7 +23,7 @@ use Rattle.acknowledge.specs.Acknowledge.{offer, answered, taken, acknowledge, 
 use Rattle.end.specs.End.{decodedEoi, eoiState, eoiRetired, dirState, dirRetired}
 use Rattle.cpu_interface.specs.CpuInterface.{WriteRule, Ignored, Keeps, Ends, Deactivates, ruleOf, writeBy, retiredBy, writeByLooksUp, readRegister, afterRead, readRegisterLooksUp, writeRegister, writeRetired, writeRegisterLooksUp}
 use Rattle.cpu_interface_frame.specs.CpuInterfaceFrame.{readAnswer}
-use Rattle.reach.proofs.Readings.{enabled-alike, interface-alike, highest-alike, retired-alike, running-alike, acknowledge-alike}
+use Rattle.reach.proofs.Readings.{Alike, enabled-alike, interface-alike, highest-alike, retired-alike, running-alike, acknowledge-alike}
 use Rattle.reach.proofs.Around.{Around, Passes, none-passes}
 use Rattle.reach.proofs.Interface.{interface-through, deactivated-through, acknowledged-passes, ended-passes, end-retired-alike}
 use Rattle.reach.proofs.Outcomes.{Carries, gave-carries}
@@ -46,7 +44,7 @@ module _ (shape : Shape) (v : ℕ) (s : List ℕ) (off : enabledAt shape s ≡ f
   off-state = simp off
 
 module _ {shape : Shape} {wrap : List ℕ → List ℕ} (around : Around shape wrap) (s : List ℕ) (h : Sound shape s) (v : ℕ) where
-  abbrev same : Agree shape Inner (wrap s) s
+  abbrev same : Alike shape (wrap s) s
   same = around .alike s (h .state)
 
   answer-carries : (a : List ℕ → Read) (g : List ℕ → List ℕ) → a (wrap s) ≡ a s → Passes wrap g s → Carries wrap (λ r. readAnswer (a r) r (g r)) s

@@ -1,6 +1,6 @@
 -- The least key of all records is the best candidate's. Assumes nothing.
 use mathlib.Core.Path.{_≡_, refl, sym, ap, _∙_}
-use mathlib.Core.Bool.{Bool, true, false, cond, _&&_}
+use mathlib.Core.Bool.{Bool, true, false, cond, _&&_, and-comm}
 use mathlib.Core.List.{List}
 use Prim.Native.Nat.{ℕ, zero, suc, _+_, _*_, _-_, _/_, _%_, _≤_, _<_}
 use native.Mathlib.Nat.{add-zero, zero-add, add-suc, le-refl}
@@ -10,8 +10,8 @@ use lib.ListN.{length, getD}
 use borrow.Author.Tests.{lt-ltb, le-ltb, ltb-true, ltb-false}
 use Rattle.state.specs.declared.layout.Shape.{Shape}
 use Rattle.state.specs.declared.layout.InterfaceValue.the-variants.{PriorityMask}
-use Rattle.state.specs.Layout.{place, spiStart, Limits}
-use Rattle.state.specs.Words.{wordAt, recordSlot, recordAt, interfaceAt}
+use Rattle.state.specs.Layout.{Spi, place, spiStart, Limits}
+use Rattle.state.specs.Words.{wordAt, recordSlot, recordAt, readyBit, interfaceAt}
 use Rattle.state.proofs.Accessors.{record-run}
 use Rattle.state.proofs.Tests.{left-true, right-true}
 use Rattle.word.specs.Word.{recordOf}
@@ -19,9 +19,9 @@ use Rattle.select.specs.declared.WordTest.{WordTest}
 use Rattle.select.specs.declared.Candidate.{Candidate}
 use Rattle.select.specs.declared.Selected.{Selected}
 use Rattle.select.specs.declared.Selected.the-variants.{Best, Nothing}
-use Rattle.select.specs.Select.{offered, candidate, candidateFor, wins, better, bestBelow, best, Looked}
-use Rattle.select.specs.Keys.{privateBits, spiBits, testOf, readyWord, keyOf, selectedBy, least, withWord, leastKey}
-use Rattle.select.proofs.Ready.{passes, ready-private, ready-spi}
+use Rattle.select.specs.Select.{offered, candidate, candidateFor, wins, better, bestAmong, bestBelow, best, readyAt, Looked}
+use Rattle.select.specs.Keys.{privateBits, spiBits, testOf, readyWord, keyOf, selectedBy, least, withWord, leastKey, everyNumber, bitIsSet}
+use Rattle.select.proofs.Ready.{private-word, spi-word}
 
 -- a selection among the numbers below n, of a priority below the mask
 abbrev Bounded : ℕ → ℕ → Selected → Type 0
@@ -58,7 +58,7 @@ module _ (shape : Shape) (v : ℕ) (s : List ℕ) where
   priority n = recordAt shape v n s .priority .0
 
   abbrev ready-at : ℕ → Bool
-  ready-at n = passes (offered v n (recordAt shape v n s)) (recordAt shape v n s)
+  ready-at n = offered v n (recordAt shape v n s) && readyAt shape v s n
 
   -- the key of the best of the numbers below n
   abbrev best-key : ℕ → ℕ
@@ -70,7 +70,7 @@ module _ (shape : Shape) (v : ℕ) (s : List ℕ) where
   candidate-is n = refl
 
   bounded : (n : ℕ) → Bounded mask n (bestBelow shape v s n)
-  unfolding bestBelow
+  unfolding bestAmong
   bounded zero = tt
   bounded (suc n) = go (candidate shape v s n && wins (candidateFor shape v s n) (bestBelow shape v s n)) refl (bounded n)
     where
@@ -101,34 +101,40 @@ module _ (shape : Shape) (v : ℕ) (s : List ℕ) where
       go true p (Best e) w = tie e (ltb q (e .priority .0)) (w .0) refl
 
   one-more-best : (n : ℕ) → bestBelow shape v s (suc n) ≡ better (candidate shape v s n) (candidateFor shape v s n) (bestBelow shape v s n)
-  unfolding bestBelow
+  unfolding bestAmong
   one-more-best n = refl
 
-  module _ (test : WordTest) (offset : ℕ) where
-    -- the word at `offset + n` is the record of the number n, and the test is what it takes
-    abbrev Tested : ℕ → Type 0
-    Tested n = (place shape (recordSlot v n) ≡ offset + n) × ((w : ℕ) → readyWord test w ≡ passes (offered v n (recordOf w)) (recordOf w))
+  module _ (asked : ℕ → Bool) (test : WordTest) (offset : ℕ) where
+    -- the word at `offset + n` is the record of the number n, and to be asked and to pass the test is what it takes
+    pub record Tested (n : ℕ) : Type 0 where
+      pub stands : place shape (recordSlot v n) ≡ offset + n
+      pub passes : (asked n && readyWord test (wordAt shape (recordSlot v n) s)) ≡ ready-at n
 
-    -- the word at its place
-    at-place : (n k so-far : ℕ) → place shape (recordSlot v n) ≡ k → withWord test n (getD s k 0) so-far ≡ withWord test n (wordAt shape (recordSlot v n) s) so-far
-    at-place n k so-far p = ap (λ (x : ℕ). withWord test n (getD s x 0) so-far) (sym p)
+    -- asked and tested in one
+    asked-word : (n w so-far : ℕ) → cond (asked n) (withWord test n w so-far) so-far ≡ cond (asked n && readyWord test w) (least (1024 * (w / 256 % 256) + n) so-far) so-far
+    asked-word n w so-far = go (asked n)
+      where
+        go : (b : Bool) → cond b (withWord test n w so-far) so-far ≡ cond (b && readyWord test w) (least (1024 * (w / 256 % 256) + n) so-far) so-far
+        go true = refl
+        go false = refl
 
-    record-step : (n : ℕ) → n < 1020 → Tested n → withWord test n (getD s (offset + n) 0) (best-key n) ≡ best-key (suc n)
+    record-step : (n : ℕ) → n < 1020 → Tested n → cond (asked n) (withWord test n (getD s (offset + n) 0) (best-key n)) (best-key n) ≡ best-key (suc n)
     unfolding recordOf
     record-step n h t =
         let x = bestBelow shape v s n in
-        at-place n (offset + n) (best-key n) (t .0)
-        ∙ rw (t .1 (wordAt shape (recordSlot v n) s)) (key-step n (ready-at n) x h (bounded n))
+        ap (λ (k : ℕ). cond (asked n) (withWord test n (getD s k 0) (best-key n)) (best-key n)) (sym (t .stands))
+        ∙ asked-word n (wordAt shape (recordSlot v n) s) (best-key n)
+        ∙ rw (t .passes) (key-step n (ready-at n) x h (bounded n))
         ∙ ap (λ (b : Bool). keyOf (1024 * mask) (better b (candidateFor shape v s n) x)) (sym (candidate-is n))
         ∙ ap (keyOf (1024 * mask)) (sym (one-more-best n))
 
     -- a run of records, after the numbers before it
     pub key-run : (first i : ℕ) → first + i ≤ 1020 → ((j : ℕ) → j < i → Tested (first + j))
-        → leastKey test offset first s (best-key first) i ≡ best-key (first + i)
+        → leastKey asked test offset first s (best-key first) i ≡ best-key (first + i)
     unfolding leastKey
     key-run first zero h tested = rw add-zero
     key-run first (suc i) h tested =
-        ap (withWord test (first + i) (getD s (offset + (first + i)) 0)) (key-run first i (omega arith) (λ j b. tested j (omega arith)))
+        ap (λ (x : ℕ). cond (asked (first + i)) (withWord test (first + i) (getD s (offset + (first + i)) 0) x) x) (key-run first i (omega arith) (λ j b. tested j (omega arith)))
         ∙ record-step (first + i) (omega arith) (tested i (omega arith))
         ∙ ap best-key (sym (add-suc first i))
 
@@ -136,25 +142,22 @@ module _ (shape : Shape) (v : ℕ) (s : List ℕ) where
   unfolding recordSlot
   private-inside h = omega arith
 
-  pub spis-inside : Looked shape v s → spiStart shape - 32 + shape .limit ≤ length s
-  spis-inside h = omega arith
-
   -- the private records, and after them the SPIs
-  pub key-private : leastKey (testOf privateBits) (place shape (recordSlot v 0)) 0 s (1024 * mask) 32 ≡ best-key 32
-  unfolding bestBelow
-  key-private = key-run (testOf privateBits) (place shape (recordSlot v 0)) 0 32 (omega arith) tested
+  pub key-private : leastKey everyNumber (testOf privateBits) (place shape (recordSlot v 0)) 0 s (1024 * mask) 32 ≡ best-key 32
+  unfolding bestAmong
+  key-private = key-run everyNumber (testOf privateBits) (place shape (recordSlot v 0)) 0 32 (omega arith) tested
     where
-      tested : (j : ℕ) → j < 32 → Tested (testOf privateBits) (place shape (recordSlot v 0)) (0 + j)
-      tested j b = (
-        record-run shape v 0 j (λ p. omega arith) ∙ ap (λ (k : ℕ). place shape (recordSlot v 0) + k) (sym (zero-add j)),
-        λ w. rw (lt-ltb (0 + j) 32 (omega arith)) (ready-private w),
-      )
+      tested : (j : ℕ) → j < 32 → Tested everyNumber (testOf privateBits) (place shape (recordSlot v 0)) (0 + j)
+      tested j b = record {
+        stands = record-run shape v 0 j (λ p. omega arith) ∙ ap (λ (k : ℕ). place shape (recordSlot v 0) + k) (sym (zero-add j));
+        passes = rw (lt-ltb (0 + j) 32 (omega arith)) (private-word (wordAt shape (recordSlot v (0 + j)) s));
+      }
 
-  pub key-spis : Limits shape → v < 8 → leastKey (testOf (spiBits v)) (spiStart shape - 32) 32 s (best-key 32) (shape .limit - 32) ≡ best-key (shape .limit)
+  pub key-spis : Limits shape → v < 8 → leastKey (bitIsSet shape s) (testOf (spiBits v)) (spiStart shape - 32) 32 s (best-key 32) (shape .limit - 32) ≡ best-key (shape .limit)
   unfolding recordSlot
   key-spis l few =
       let all : 32 + (shape .limit - 32) ≡ shape .limit = omega arith in
-      key-run (testOf (spiBits v)) (spiStart shape - 32) 32 (shape .limit - 32) (omega arith) tested
+      key-run (bitIsSet shape s) (testOf (spiBits v)) (spiStart shape - 32) 32 (shape .limit - 32) (omega arith) tested
       ∙ ap best-key all
     where
       not-lt-self : 32 < 32 → ⊥
@@ -163,11 +166,11 @@ module _ (shape : Shape) (v : ℕ) (s : List ℕ) where
       spi-first : (j : ℕ) → place shape (recordSlot v 32) + j ≡ spiStart shape - 32 + (32 + j)
       spi-first j = omega arith
 
-      tested : (j : ℕ) → j < shape .limit - 32 → Tested (testOf (spiBits v)) (spiStart shape - 32) (32 + j)
-      tested j b = (
-        record-run shape v 32 j (λ p. absurd (not-lt-self p)) ∙ spi-first j,
-        λ w. rw (le-ltb (32 + j) 32 (omega arith)) (ready-spi v w few),
-      )
+      tested : (j : ℕ) → j < shape .limit - 32 → Tested (bitIsSet shape s) (testOf (spiBits v)) (spiStart shape - 32) (32 + j)
+      tested j b = record {
+        stands = record-run shape v 32 j (λ p. absurd (not-lt-self p)) ∙ spi-first j;
+        passes = rw (le-ltb (32 + j) 32 (omega arith), spi-word v (wordAt shape (Spi (32 + j)) s) few) (and-comm (readyBit shape (32 + j) s) _);
+      }
 
   pub selected-best : Limits shape → selectedBy (1024 * mask) (best-key (shape .limit)) ≡ best shape v s
   selected-best l = key-back mask (shape .limit) (best shape v s) (omega arith) (bounded (shape .limit))

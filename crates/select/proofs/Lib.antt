@@ -1,5 +1,8 @@
 -- Laws that belong to no one function.
-pub mod Meaning
-pub mod WordTests
-pub mod Ready
+pub mod Agree
 pub mod KeyLaws
+pub mod Meaning
+pub mod Ready
+pub mod SummaryWords
+pub mod Walk
+pub mod WordTests

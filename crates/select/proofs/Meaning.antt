@@ -8,26 +8,23 @@ use native.Mathlib.Nat.{not-suc-le-zero}
 use native.Mathlib.Omega.{arith}
 use lib.Dec.{ltb}
 use borrow.Author.Tests.{ltb-true, ltb-false, not-true}
-use Rattle.interrupt.specs.Record.{isReady}
 use Rattle.word.proofs.Cases.{last-or}
 use Rattle.state.specs.declared.layout.Shape.{Shape}
-use Rattle.state.specs.declared.layout.InterfaceValue.the-variants.{PriorityMask}
 use Rattle.state.specs.Words.{recordAt, interfaceAt}
+use Rattle.state.specs.declared.layout.InterfaceValue.the-variants.{PriorityMask}
 use Rattle.state.proofs.Tests.{left-true, right-true}
 use Rattle.select.specs.declared.Candidate.{Candidate}
 use Rattle.select.specs.declared.Selected.{Selected}
 use Rattle.select.specs.declared.Selected.the-variants.{Best, Nothing}
-use Rattle.select.specs.Select.{offered, candidate, candidateFor, better, bestBelow, best, IsBest}
+use Rattle.select.specs.Select.{offered, readyAt, candidate, candidateFor, better, bestAmong, bestBelow, best, IsBest}
 
 module _ (shape : Shape) (v : ℕ) (s : List ℕ) where
-  pub candidate-ready : (n : ℕ) → candidate shape v s n ≡ true → isReady (recordAt shape v n s) ≡ true
+  -- whatever the words, a candidate is ready by its record or by its bit
+  pub candidate-is-ready : (n : ℕ) → candidate shape v s n ≡ true → readyAt shape v s n ≡ true
   unfolding candidate
-  candidate-ready n c =
+  candidate-is-ready n c =
       let r = recordAt shape v n s in
-      right-true (offered v n r) (isReady r) (left-true (offered v n r && isReady r) (ltb (r .priority .0) (interfaceAt shape v PriorityMask s)) c)
-
-  pub candidate-idle : (n : ℕ) → candidate shape v s n ≡ true → recordAt shape v n s .active ≡ false
-  candidate-idle n c = let r = recordAt shape v n s in not-true (r .active) (right-true (r .enabled && r .pending) (not (r .active)) (candidate-ready n c))
+      right-true (offered v n r) (readyAt shape v s n) (left-true (offered v n r && readyAt shape v s n) (ltb (r .priority .0) (interfaceAt shape v PriorityMask s)) c)
 
   -- what a selection says of the numbers below n
   abbrev Means : ℕ → Selected → Type 0
@@ -75,7 +72,7 @@ module _ (shape : Shape) (v : ℕ) (s : List ℕ) where
       }
 
   means : (n : ℕ) → Means n (bestBelow shape v s n)
-  unfolding bestBelow
+  unfolding bestAmong
   means zero = λ m h. absurd (not-suc-le-zero h)
   means (suc n) = go (candidate shape v s n) refl (means n)
     where

@@ -1,12 +1,14 @@
--- How `highest_pending` goes about it: of a run of records the least key, where a key is the priority with the number below it. A reader need
--- not believe any of it; the promise is in Select.antt.
+-- How `highest_pending` goes about it: of a run of records the least key, where a key is the priority with the number below it; of the SPIs only
+-- those whose bit is set, word by word of the summary. A reader need not believe any of it; the promise is in Select.antt.
 use mathlib.Core.Bool.{Bool, true, false, cond}
 use mathlib.Core.List.{List, [], _∷_}
 use Prim.Native.Nat.{ℕ, zero, suc, _+_, _*_, _/_, _%_, _^_, _≤_}
 use lib.Bits.{bitAnd}
 use lib.Dec.{eqb, ltb}
 use lib.ListN.{length, getD}
-use Rattle.word.specs.Word.{bitOf}
+use Rattle.word.specs.Word.{bitOf, flag}
+use Rattle.state.specs.declared.layout.Shape.{Shape}
+use Rattle.state.specs.Words.{readyBit}
 use Rattle.select.specs.declared.WordTest.{WordTest}
 use Rattle.select.specs.declared.Selected.{Selected}
 use Rattle.select.specs.declared.Selected.the-variants.{Best, Nothing}
@@ -23,9 +25,9 @@ want i b = record { place = i; set = b }
 abbrev pub privateBits : List WantedBit
 privateBits = want 2 false ∷ want 1 true ∷ want 0 true ∷ []
 
--- of an SPI for the vCPU v: v in its mask, and the mask set
+-- of an SPI for the vCPU v: v in its mask, and the mask set; that it is ready its bit of the summary says
 abbrev pub spiBits : ℕ → List WantedBit
-spiBits v = want (16 + v) true ∷ want 7 true ∷ privateBits
+spiBits v = want (16 + v) true ∷ want 7 true ∷ []
 
 -- the test of a word that asks for them all at once
 abbrev pub careOf : List WantedBit → ℕ
@@ -58,10 +60,36 @@ least a b = cond (ltb a b) a b
 abbrev pub withWord : WordTest → ℕ → ℕ → ℕ → ℕ
 withWord test n w so-far = cond (readyWord test w) (least (1024 * (w / 256 % 256) + n) so-far) so-far
 
--- the least of `start` and the keys of the i numbers from `first` up
-unfoldable pub leastKey : WordTest → ℕ → ℕ → List ℕ → ℕ → ℕ → ℕ
-leastKey test offset first s start zero = start
-leastKey test offset first s start (suc i) = withWord test (first + i) (getD s (offset + (first + i)) 0) (leastKey test offset first s start i)
+-- the least of `start` and the keys of those of the i numbers from `first` up that are asked
+unfoldable pub leastKey : (ℕ → Bool) → WordTest → ℕ → ℕ → List ℕ → ℕ → ℕ → ℕ
+leastKey asked test offset first s start zero = start
+leastKey asked test offset first s start (suc i) =
+    cond (asked (first + i)) (withWord test (first + i) (getD s (offset + (first + i)) 0) (leastKey asked test offset first s start i)) (leastKey asked test offset first s start i)
+
+-- of the private records every one, of the SPIs those whose bit is set
+abbrev pub everyNumber : ℕ → Bool
+everyNumber n = true
+
+abbrev pub bitIsSet : Shape → List ℕ → ℕ → Bool
+bitIsSet shape s n = readyBit shape n s
+
+-- the step f at each set bit of x below k, the lowest first
+unfoldable pub walked : (ℕ → ℕ → ℕ) → ℕ → ℕ → ℕ → ℕ
+walked f x a zero = a
+walked f x a (suc i) = cond (flag i x) (f i (walked f x a i)) (walked f x a i)
+
+-- one number more, if it is below the limit: the last word of the summary has bits to spare
+abbrev pub withNumber : WordTest → ℕ → ℕ → List ℕ → ℕ → ℕ → ℕ
+withNumber test offset limit s n so-far = cond (ltb n limit) (withWord test n (getD s (offset + n) 0) so-far) so-far
+
+-- the 32 numbers from `first` up, whose word of the summary is x
+abbrev pub withSummaryWord : WordTest → ℕ → ℕ → List ℕ → ℕ → ℕ → ℕ → ℕ
+withSummaryWord test offset limit s first x start = walked (λ i. withNumber test offset limit s (first + i)) x start 32
+
+-- records of the numbers below the limit
+pub record NumbersAt (offset limit : ℕ) (s : List ℕ) : Type 0 where
+  pub numbers : limit ≤ 1020
+  pub inside : offset + limit ≤ length s
 
 pub record KeyRun (offset first end : ℕ) (s : List ℕ) : Type 0 where
   pub order : first ≤ end

@@ -1,4 +1,5 @@
--- Which interrupt a vCPU is offered: document 01, "CPU interface places", Candidate and Best; IHI 0048, 3.3, "Interrupt prioritization".
+-- Which interrupt a vCPU is offered: document 01, "CPU interface places", Candidate and Best; document 02, Five, by the bits of the summary; IHI
+-- 0048, 3.3, "Interrupt prioritization".
 -- Left out on purpose: the running priority, which only an acknowledge looks at.
 use mathlib.Core.Bool.{Bool, true, cond, _&&_, _||_}
 use mathlib.Core.List.{List}
@@ -12,7 +13,7 @@ use Rattle.word.specs.Word.{maskByte}
 use Rattle.state.specs.declared.layout.Shape.{Shape}
 use Rattle.state.specs.declared.layout.InterfaceValue.the-variants.{Control, PriorityMask}
 use Rattle.state.specs.Layout.{Room}
-use Rattle.state.specs.Words.{recordAt, interfaceAt, enableBit, enabledAt}
+use Rattle.state.specs.Words.{recordAt, readyBit, interfaceAt, enableBit, enabledAt}
 use Rattle.select.specs.declared.Candidate.{Candidate}
 use Rattle.select.specs.declared.Selected.{Selected}
 use Rattle.select.specs.declared.Selected.the-variants.{Best, Nothing}
@@ -21,12 +22,21 @@ use Rattle.select.specs.declared.Selected.the-variants.{Best, Nothing}
 abbrev pub offered : ℕ → ℕ → InterruptRecord → Bool
 offered v n r = isPrivateId (record { 0 = n }) || eqb (maskByte (r .«cpu_target_mask») / 2 ^ v % 2) 1
 
--- ".. that are enabled, pending, not active, with priority below PMR", which is `mask`
-abbrev pub eligible : ℕ → ℕ → ℕ → InterruptRecord → Bool
-eligible mask v n r = offered v n r && isReady r && ltb (r .priority .0) mask
+-- ".. that are enabled, pending, not active" (`ready`), "with priority below PMR", which is `mask`
+abbrev pub eligible : ℕ → ℕ → ℕ → Bool → InterruptRecord → Bool
+eligible mask v n ready r = offered v n r && ready && ltb (r .priority .0) mask
+
+-- "let selection walk set bits only .. On a lent state whose bits are false, answers follow the bits" (document 02, Five): an SPI is ready by its
+-- bit, and a private interrupt, which has none, by its record
+abbrev pub readyAt : Shape → ℕ → List ℕ → ℕ → Bool
+readyAt shape v s n = cond (isPrivateId (record { 0 = n })) (isReady (recordAt shape v n s)) (readyBit shape n s)
 
 unfoldable pub candidate : Shape → ℕ → List ℕ → ℕ → Bool
-candidate shape v s n = eligible (interfaceAt shape v PriorityMask s) v n (recordAt shape v n s)
+candidate shape v s n = eligible (interfaceAt shape v PriorityMask s) v n (readyAt shape v s n) (recordAt shape v n s)
+
+-- the same by the records alone, as it was before Five; `bits-and-records` in proofs/Agree.antt shows where they agree
+unfoldable pub candidateByRecord : Shape → ℕ → List ℕ → ℕ → Bool
+candidateByRecord shape v s n = eligible (interfaceAt shape v PriorityMask s) v n (isReady (recordAt shape v n s)) (recordAt shape v n s)
 
 -- a number with its priority
 abbrev pub candidateFor : Shape → ℕ → List ℕ → ℕ → Candidate
@@ -40,13 +50,20 @@ wins c (Best b) = ltb (c .priority .0) (b .priority .0)
 abbrev pub better : Bool → Candidate → Selected → Selected
 better fit c b = cond (fit && wins c b) (Best c) b
 
--- of the numbers below n
-unfoldable pub bestBelow : Shape → ℕ → List ℕ → ℕ → Selected
-bestBelow shape v s zero = Nothing
-bestBelow shape v s (suc n) = better (candidate shape v s n) (candidateFor shape v s n) (bestBelow shape v s n)
+-- of the numbers below n that fit
+unfoldable pub bestAmong : (ℕ → Bool) → Shape → ℕ → List ℕ → ℕ → Selected
+bestAmong fits shape v s zero = Nothing
+bestAmong fits shape v s (suc n) = better (fits n) (candidateFor shape v s n) (bestAmong fits shape v s n)
 
+abbrev pub bestBelow : Shape → ℕ → List ℕ → ℕ → Selected
+bestBelow shape v s n = bestAmong (candidate shape v s) shape v s n
+
+-- of all numbers below the limit: a bit from there up is no candidate
 abbrev pub best : Shape → ℕ → List ℕ → Selected
 best shape v s = bestBelow shape v s (shape .limit)
+
+abbrev pub bestByRecords : Shape → ℕ → List ℕ → Selected
+bestByRecords shape v s = bestAmong (candidateByRecord shape v s) shape v s (shape .limit)
 
 -- Distributor and interface are on: bit 0 of each CTLR
 abbrev pub bothOn : Shape → ℕ → List ℕ → Bool

@@ -1,10 +1,11 @@
-// Selection: which interrupt a vCPU is offered. Each record is visited once, where it stands.
+// Selection: which interrupt a vCPU is offered. The private records are visited one by one, of the SPIs those whose bit is set.
 ghost use mathlib.Core.Path.{_≡_};
 ghost use Prim.Native.Nat.{_<_, _-_, _*_};
+ghost use Rattle.state.specs.Layout.{spiStart, Room};
 ghost use Rattle.state.specs.declared.layout.InterfaceValue.the-variants.{PriorityMask};
 ghost use Rattle.state.specs.Words.{interfaceAt};
 ghost use Rattle.select.specs.Select.{best, bothOn, selectedNumber, highestPending, Looked};
-ghost use Rattle.select.specs.Keys.{privateBits, spiBits, testOf, readyWord, selectedBy, least, withWord, leastKey, KeyRun};
+ghost use Rattle.select.specs.Keys.{privateBits, spiBits, testOf, readyWord, selectedBy, least, withWord, leastKey, everyNumber, bitIsSet, withNumber, withSummaryWord, NumbersAt, KeyRun};
 use interrupt::GicVcpuId;
 use interrupt::IntId;
 use interrupt::Priority;
@@ -54,9 +55,11 @@ fn spi_test(vcpu: GicVcpuId) -> WordTest
     requires { ⌜ vcpu .0 < 8 ⌝ }
     ensures { λ r. ⌜ r ≡ testOf (spiBits (vcpu .0)) ⌝ }
 {
-    let wanted = ENABLED + PENDING + MASK_SET + (FIRST_TARGET << vcpu.0);
-    let care = wanted + ACTIVE;
-    WordTest { care, wanted }
+    let wanted = MASK_SET + (FIRST_TARGET << vcpu.0);
+    WordTest {
+        care: wanted,
+        wanted,
+    }
 }
 
 fn is_ready(word: u32, test: WordTest) -> bool
@@ -76,23 +79,83 @@ fn with_record(word: u32, intid: IntId, test: WordTest, so_far: u32) -> u32
     requires { ⌜ intid .0 < 1020 ⌝ }
     ensures { λ r. ⌜ r ≡ withWord test (intid .0) word «so_far» ⌝ }
 {
-    if is_ready(word, test) {
-        least(1024 * (word / 256 % 256) + intid.0, so_far)
-    } else {
-        so_far
-    }
+    // Both keys are made, so that no branch hangs on the word.
+    let key = 1024 * (word / 256 % 256) + intid.0;
+    let offered = if is_ready(word, test) { key } else { so_far };
+    least(offered, so_far)
 }
 
 // Of the numbers from `first` to below `end`, and `start`; the record of the number n is at `offset + n`.
 fn least_key(words: &[u32], offset: usize, first: u32, end: u32, test: WordTest, start: u32) -> u32
     requires { ⌜ KeyRun offset first end (now words) ⌝ }
-    ensures { λ r. ⌜ r ≡ leastKey test offset first (now (words .entry)) start (end - first) ⌝ }
+    ensures { λ r. ⌜ r ≡ leastKey everyNumber test offset first (now (words .entry)) start (end - first) ⌝ }
 {
     let mut key = start;
     let mut n = first;
     while n < end {
         key = with_record(words[offset + n as usize], IntId(n), test, key);
         n += 1;
+    }
+    key
+}
+
+// A bit of the summary may be of no number.
+fn with_number(
+    words: &[u32],
+    offset: usize,
+    limit: u32,
+    intid: IntId,
+    test: WordTest,
+    so_far: u32,
+) -> u32
+    requires { ⌜ NumbersAt offset limit (now words) ⌝ }
+    ensures { λ r. ⌜ r ≡ withNumber test offset limit (now (words .entry)) (intid .0) «so_far» ⌝ }
+{
+    if intid.0 < limit {
+        with_record(words[offset + intid.0 as usize], intid, test, so_far)
+    } else {
+        so_far
+    }
+}
+
+// The set bits of a word of the summary, the lowest first; `first` is the number of its bit 0.
+fn with_summary_word(
+    words: &[u32],
+    offset: usize,
+    limit: u32,
+    first: u32,
+    bits: u32,
+    test: WordTest,
+    start: u32,
+) -> u32
+    requires { ⌜ (first < 1020) × NumbersAt offset limit (now words) ⌝ }
+    ensures { λ r. ⌜ r ≡ withSummaryWord test offset limit (now (words .entry)) first bits start ⌝ }
+{
+    let mut key = start;
+    let mut left = bits;
+    while left != 0 {
+        let intid = IntId(first + u32::trailing_zeros(left));
+        key = with_number(words, offset, limit, intid, test, key);
+        left = left & (left - 1);
+    }
+    key
+}
+
+// Of the SPIs whose bit is set, and `start`.
+fn least_ready(words: &[u32], shape: Shape, test: WordTest, start: u32) -> u32
+    requires { ⌜ Room shape (now words) ⌝ }
+    ensures { λ r. ⌜ r ≡ leastKey (bitIsSet shape (now (words .entry))) test (spiStart shape - 32) 32 (now (words .entry)) start (shape .limit - 32) ⌝ }
+{
+    let offset = shape.spi_start() - 32;
+    let summary = shape.spi_end();
+    let many = shape.summary_words();
+    let mut key = start;
+    let mut g = 0;
+    while g < many {
+        let bits = words[summary + g];
+        let first = 32 + 32 * g as u32;
+        key = with_summary_word(words, offset, shape.limit, first, bits, test, key);
+        g += 1;
     }
     key
 }
@@ -129,8 +192,7 @@ pub fn highest_pending(words: &[u32], shape: Shape, vcpu: GicVcpuId) -> Selected
     let none = 1024 * mask.0 as u32;
     let own = record_place(shape, vcpu, IntId(0));
     let private = least_key(words, own, 0, 32, private_test(), none);
-    let spis = shape.spi_start() - 32;
-    let key = least_key(words, spis, 32, shape.limit, spi_test(vcpu), private);
+    let key = least_ready(words, shape, spi_test(vcpu), private);
     of_key(key, none)
 }
 

@@ -10,6 +10,7 @@ use Rattle.state.specs.declared.layout.InterfaceValue.the-variants.{Depth}
 use Rattle.state.specs.declared.words.Entry.{Entry}
 use Rattle.state.specs.Layout.{Slot, Interface, Stack, Exists, Room, stackCapacity}
 use Rattle.state.specs.Words.{wordAt, entryOf, entryWord, entryAt, withInterface, withoutEntry}
+use Rattle.state.proofs.Ready.{PutKeeps, Anywhere, room-kept}
 use Rattle.state.proofs.Accessors.{put-room, put-same, put-other, entry-same}
 use Rattle.state.proofs.SlotKinds.{kinds-apart}
 use Rattle.service.specs.Service.{depthAt, stackTo, stackAt, isNewest, pushed, popped, Served}
@@ -46,9 +47,14 @@ stack-same shape v s r deep depth same = ap (stackTo shape v r) depth ∙ same-t
 
 -- a push
 module _ (shape : Shape) (v : ℕ) (e : Entry) (s : List ℕ) (h : Served shape v s) (room : depthAt shape v s < stackCapacity) where
-  pub pushed-room : Room shape (pushed shape v e s)
+  pub pushed-keeps : (Mine : Slot → Type 0) → Mine (Interface v Depth) → Mine (Stack v (depthAt shape v s)) → (P : List ℕ → Type 0) → PutKeeps shape Mine P → P s → P (pushed shape v e s)
   unfolding pushed
-  pushed-room = put-room shape (withInterface shape v Depth (depthAt shape v s + 1) s) (Stack v (depthAt shape v s)) (entryWord e) (put-room shape s (Interface v Depth) (depthAt shape v s + 1) (h .state))
+  pushed-keeps Mine depth entry P keeps p =
+      keeps (Stack v (depthAt shape v s)) (entryWord e) (withInterface shape v Depth (depthAt shape v s + 1) s) (h .exists, room) entry
+      (keeps (Interface v Depth) (depthAt shape v s + 1) s (h .exists) depth p)
+
+  pub pushed-room : Room shape (pushed shape v e s)
+  pushed-room = pushed-keeps Anywhere tt tt (Room shape) (room-kept shape Anywhere) (h .state)
 
   pub pushed-others : (t : Slot) → Exists shape t → (t ≡ Interface v Depth → ⊥) → (t ≡ Stack v (depthAt shape v s) → ⊥) → wordAt shape t (pushed shape v e s) ≡ wordAt shape t s
   unfolding pushed
@@ -81,9 +87,15 @@ below [] = []
 below (e ∷ es) = es
 
 module _ (shape : Shape) (v : ℕ) (s : List ℕ) (h : Served shape v s) (some : 0 < depthAt shape v s) where
-  pub popped-room : Room shape (popped shape v s)
+  pub popped-keeps : (Mine : Slot → Type 0) → Mine (Interface v Depth) → Mine (Stack v (depthAt shape v s - 1)) → (P : List ℕ → Type 0) → PutKeeps shape Mine P → P s → P (popped shape v s)
   unfolding popped
-  popped-room = put-room shape (withoutEntry shape v (depthAt shape v s - 1) s) (Interface v Depth) (depthAt shape v s - 1) (put-room shape s (Stack v (depthAt shape v s - 1)) 0 (h .state))
+  popped-keeps Mine depth entry P keeps p =
+      let deep : depthAt shape v s ≤ stackCapacity = h .deep in
+      keeps (Interface v Depth) (depthAt shape v s - 1) (withoutEntry shape v (depthAt shape v s - 1) s) (h .exists) depth
+      (keeps (Stack v (depthAt shape v s - 1)) 0 s (h .exists, omega arith) entry p)
+
+  pub popped-room : Room shape (popped shape v s)
+  popped-room = popped-keeps Anywhere tt tt (Room shape) (room-kept shape Anywhere) (h .state)
 
   pub popped-others : (t : Slot) → Exists shape t → (t ≡ Interface v Depth → ⊥) → (t ≡ Stack v (depthAt shape v s - 1) → ⊥) → wordAt shape t (popped shape v s) ≡ wordAt shape t s
   unfolding popped

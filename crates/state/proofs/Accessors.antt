@@ -7,8 +7,8 @@ use Prim.Native.Nat.{ℕ, _+_, _/_, _%_, _≤_, _<_}
 use native.Mathlib.Omega.{arith}
 use native.Mathlib.Nat.{mod-eq-of-lt}
 use lib.Dec.{ltb}
-use lib.ListN.{length, drop, length-set}
-use lib.Seq.{getD-set-same, getD-set-other, set-set, set-comm, drop-set-lt}
+use lib.ListN.{length, drop, set, length-set}
+use lib.Seq.{getD-set-same, getD-set-other, drop-set-lt}
 use borrow.Author.Tests.{lt-ltb, le-ltb, ltb-true, ltb-false, eq-eqb, ne-eqb}
 use Rattle.interrupt.specs.declared.record.InterruptRecord.{InterruptRecord}
 use Rattle.word.specs.Word.{bitOf, wordOf, InRange}
@@ -17,9 +17,10 @@ use Rattle.word.proofs.RecordWord.{decode-encode}
 use Rattle.state.specs.declared.layout.Shape.{Shape}
 use Rattle.state.specs.declared.layout.InterfaceValue.{InterfaceValue}
 use Rattle.state.specs.declared.words.Entry.{Entry}
-use Rattle.state.specs.Layout.{Slot, DistributorControl, Interface, Sources, Private, Spi, Stack, size, place, Exists, Limits, Room, numberOf}
+use Rattle.state.specs.Layout.{Slot, DistributorControl, Interface, Sources, Private, Spi, Stack, size, place, Exists, Limits, Room, numberOf, spiOf}
 use Rattle.state.specs.Words.{wordAt, put, recordSlot, RecordThere, recordAt, withRecord, sourcesAt, withSources, kept, interfaceAt, withInterface, keptDistributorControl, distributorControlAt, withDistributorControl, enableBit, entryOf, entryWord, entryAt, withEntry, CanonicalWord}
-use Rattle.state.proofs.Places.{kept-kept, place-inside, place-apart}
+use Rattle.state.proofs.Places.{kept-kept, place-inside, place-apart, off-summary}
+use Rattle.state.proofs.Summary.{spi-there, summed-length, summed-at, summed-past}
 
 -- of the Distributor's CTLR that is the enable bit
 pub control-bit : (x : ℕ) → keptDistributorControl x ≡ bitOf (enableBit x)
@@ -34,7 +35,7 @@ entry-back e a b =
 
 module _ (shape : Shape) (s : List ℕ) where
   pub put-length : (t : Slot) (w : ℕ) → length (put shape t w s) ≡ length s
-  put-length t w = length-set s (place shape t) w
+  put-length t w = summed-length shape (spiOf t) w (set s (place shape t) w) ∙ length-set s (place shape t) w
 
   pub put-room : (t : Slot) (w : ℕ) → Room shape s → Room shape (put shape t w s)
   put-room t w h = record { limits = h .limits; room = rw (put-length t w) (h .room) }
@@ -43,22 +44,19 @@ module _ (shape : Shape) (s : List ℕ) where
   pub put-same : (t : Slot) (w : ℕ) → Room shape s → Exists shape t → wordAt shape t (put shape t w s) ≡ w
   put-same t w h e =
       let inside : place shape t < size shape = place-inside shape t (h .limits) e in
-      getD-set-same s (place shape t) w 0 (omega arith)
+      summed-at shape (spiOf t) w (set s (place shape t) w) (place shape t) (spi-there shape t e) (off-summary shape t e)
+      ∙ getD-set-same s (place shape t) w 0 (omega arith)
 
   -- another slot, of the same kind or of another
   pub put-other : (t u : Slot) (w : ℕ) → Exists shape t → Exists shape u → (t ≡ u → ⊥) → wordAt shape t (put shape u w s) ≡ wordAt shape t s
-  put-other t u w et eu apart = getD-set-other s (place shape u) (place shape t) w 0 (λ p. apart (place-apart shape t u et eu p))
+  put-other t u w et eu apart =
+      summed-at shape (spiOf u) w (set s (place shape u) w) (place shape t) (spi-there shape u eu) (off-summary shape t et)
+      ∙ getD-set-other s (place shape u) (place shape t) w 0 (λ p. apart (place-apart shape t u et eu p))
 
   -- the words past the size
   pub put-past : (t : Slot) (w : ℕ) → Limits shape → Exists shape t → drop (size shape) (put shape t w s) ≡ drop (size shape) s
-  put-past t w l e = drop-set-lt (size shape) s (place shape t) w (place-inside shape t l e)
-
-  -- the later of two counts, and at two slots the order does not
-  pub put-put : (t : Slot) (w x : ℕ) → put shape t x (put shape t w s) ≡ put shape t x s
-  put-put t w x = set-set s (place shape t) w x
-
-  pub put-comm : (t u : Slot) (w x : ℕ) → Exists shape t → Exists shape u → (t ≡ u → ⊥) → put shape u x (put shape t w s) ≡ put shape t w (put shape u x s)
-  put-comm t u w x et eu apart = set-comm s (place shape t) (place shape u) w x (λ p. apart (place-apart shape t u et eu p))
+  put-past t w l e =
+      summed-past shape (spiOf t) w (set s (place shape t) w) (spi-there shape t e) ∙ drop-set-lt (size shape) s (place shape t) w (place-inside shape t l e)
 
   -- a slot is the one that was put, or another
   pub same-or-other {ℓ} : {X : Type ℓ} (t u : Slot) → Exists shape t → Exists shape u → (t ≡ u → X) → ((t ≡ u → ⊥) → X) → X
@@ -101,6 +99,15 @@ record-exists shape v n there = go (ltb n 32) refl
     go : (b : Bool) → ltb n 32 ≡ b → Exists shape (cond b (Private v n) (Spi n))
     go true e = (there .banked (ltb-true n 32 e), ltb-true n 32 e)
     go false e = (ltb-false n 32 e, there .numbered)
+
+-- which of the two kinds it is
+pub record-private : (v n : ℕ) → ltb n 32 ≡ true → recordSlot v n ≡ Private v n
+unfolding recordSlot
+record-private v n e = rw e
+
+pub record-spi : (v n : ℕ) → ltb n 32 ≡ false → recordSlot v n ≡ Spi n
+unfolding recordSlot
+record-spi v n e = rw e
 
 pub number-of-record : (v n : ℕ) → numberOf (recordSlot v n) ≡ n
 unfolding recordSlot

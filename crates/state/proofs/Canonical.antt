@@ -17,6 +17,7 @@ use Rattle.state.specs.Layout.{Slot, DistributorControl, Interface, Sour
 use Rattle.state.specs.Words.{wordAt, put, recordSlot, withRecord, withSources, kept, withInterface, keptDistributorControl, withDistributorControl, entryWord, withEntry, withoutEntry, CanonicalWord, Canonical}
 use Rattle.state.proofs.Accessors.{put-same, put-other, same-or-other, put-written}
 use Rattle.state.proofs.Places.{kept-kept}
+use Rattle.state.proofs.Ready.{put-spared}
 
 -- a slot that says nothing of what lies on a stack
 abbrev pub OffStack : Slot → Type 0
@@ -32,6 +33,7 @@ module _ (shape : Shape) (s : List ℕ) (h : Room shape s) (c : Canonical shape 
     cleared = λ v i b d l.
         put-other shape s (Stack v i) u w (b, l) e (off-stack-apart (Stack v i) u refl off)
         ∙ c .cleared v i b (rw (put-other shape s (Interface v Depth) u w b e (off-stack-apart (Interface v Depth) u refl off)) at d) l;
+    spared = λ k on. put-spared shape s h u w k e on (c .spared k on);
   }
 
   record-off : (v n : ℕ) → OffStack (recordSlot v n)
@@ -72,6 +74,7 @@ module _ (shape : Shape) (s : List ℕ) (h : Room shape s) (c : Canonical shape 
         same-or-other shape s (Stack u j) (Stack v i) (bu, l) x
         (λ p. subst (λ (t : Slot). wordAt shape t (put shape (Stack v i) w s) ≡ 0) (sym p) (put-same shape s (Stack v i) w h x ∙ dead (below u j p old)))
         (λ apart. put-other shape s (Stack u j) (Stack v i) w (bu, l) x apart ∙ c .cleared u j bu old l);
+    spared = λ k on. put-spared shape s h (Stack v i) w k x on (c .spared k on);
   }
     where
       depth-stays : (u : ℕ) → u < shape .count → wordAt shape (Interface u Depth) (put shape (Stack v i) w s) ≡ wordAt shape (Interface u Depth) s
@@ -94,6 +97,7 @@ module _ (shape : Shape) (s : List ℕ) (h : Room shape s) (c : Canonical shape 
     cleared = λ u j bu deep l. stack-stays u j bu l ∙ same-or-other shape s (Interface u Depth) (Interface v Depth) bu b
         (λ p. let r : u ≡ v = cc in rw r (zeros j (rw (r, put-same shape s (Interface v Depth) d h b) at deep) l))
         (λ apart. c .cleared u j bu (rw (put-other shape s (Interface u Depth) (Interface v Depth) d bu b apart) at deep) l);
+    spared = λ k on. put-spared shape s h (Interface v Depth) d k b on (c .spared k on);
   }
     where
       stack-stays : (u j : ℕ) → u < shape .count → j < stackCapacity → wordAt shape (Stack u j) (put shape (Interface v Depth) d s) ≡ wordAt shape (Stack u j) s

@@ -5,9 +5,11 @@ pub mod Decoded
 pub mod Equal
 pub mod Numbers
 pub mod Places
-pub mod SlotBits
+pub mod Ready
 pub mod SlotKinds
 pub mod Starting
 pub mod Steps
+pub mod Summary
 pub mod Tests
 pub mod Validated
+pub mod WordBits

@@ -1,21 +1,23 @@
 -- What is said of each kind of slot and of each interface value, here alone: where it stands, that it stands alone there, and that it starts as
 -- it is written. How large a state is. Assumes nothing.
 use mathlib.Core.Path.{_≡_, refl, sym, ap, _∙_}
-use mathlib.Core.Bool.{Bool, true, false, cond}
+use mathlib.Core.Bool.{Bool, true, false, cond, and-false, true≢false}
+use mathlib.Core.Option.{none, some}
 use Prim.Native.Nat.{ℕ, zero, suc, _+_, _*_, _-_, _/_, _%_, _≤_, _<_}
 use native.Mathlib.Omega.{arith}
-use lib.Dec.{eqb, ltb}
-use borrow.Author.Tests.{lt-ltb, le-ltb, ltb-true, ltb-false, eqb-true, eqb-false}
+use lib.Dec.{eqb, leb, ltb}
+use borrow.Author.Tests.{lt-ltb, le-ltb, ltb-true, ltb-false, le-leb, lt-leb, leb-true, eqb-true, eqb-false}
 use Rattle.interrupt.specs.Record.{newRecord, startingRecord}
 use Rattle.word.specs.Word.{wordOf, InRange}
 use Rattle.word.proofs.RecordWord.{decode-encode}
 use Rattle.state.specs.declared.layout.Shape.{Shape}
 use Rattle.state.specs.declared.layout.InterfaceValue.{InterfaceValue}
 use Rattle.state.specs.declared.layout.InterfaceValue.the-variants.{Control, PriorityMask, BinaryPoint, Depth}
-use Rattle.state.specs.Layout.{Slot, Count, Limit, DistributorControl, Interface, Sources, Private, Spi, Stack, interfaceNumber, headerWords, sourcesStart, privateStart, vcpuWords, firstSpi, stackCapacity, spiStart, spiEnd, stackStart, size, largestSize, place, Exists, Limits, interfaceOf, headerSlot, vcpuSlot, tailSlot, slotAt, kindOf}
-use Rattle.state.specs.Words.{kept, startOf, CanonicalWord}
+use Rattle.state.specs.Layout.{Slot, Count, Limit, DistributorControl, Interface, Sources, Private, Spi, Stack, interfaceNumber, headerWords, sourcesStart, privateStart, vcpuWords, firstSpi, stackCapacity, spiStart, spiEnd, summaryPlace, stackStart, size, largestSize, place, Exists, Limits, interfaceOf, headerSlot, vcpuSlot, tailSlot, inSummary, slotAt, kindOf, spiOf}
+use Rattle.state.specs.Words.{kept, startOf, startAt, CanonicalWord}
+use Rattle.state.proofs.Tests.{left-true, right-true}
 
--- no state is larger than that of 8 vCPUs and limit 1020, which takes less than 32 KiB
+-- no state is larger than that of 8 vCPUs and limit 1020, which takes less than 32 KiB (document 02, Five, would allow 33)
 pub size-bound : (shape : Shape) → Limits shape → size shape ≤ largestSize
 size-bound shape l = omega arith
 
@@ -153,13 +155,51 @@ vcpu-at shape v r b h = go (ltb r sourcesStart) (ltb r privateStart) refl refl
         let y : privateStart ≤ r = ltb-false r privateStart q in
         record { exists = (b, omega arith); stands = omega arith }
 
-tail-at : (shape : Shape) (k : ℕ) → Limits shape → spiEnd shape ≤ k → k < size shape → At shape k (tailSlot shape k)
+tail-at : (shape : Shape) (k : ℕ) → Limits shape → stackStart shape ≤ k → k < size shape → At shape k (tailSlot shape k)
 tail-at shape k l past h = record { exists = (omega arith, omega arith); stands = omega arith }
 
--- every place of a state has its slot
-pub every-place : (shape : Shape) (k : ℕ) → Limits shape → k < size shape → At shape k (slotAt shape k)
+no-spi : (n : ℕ) → none ≡ some n → ⊥
+no-spi n e = let z : _≡_ {A = ℕ} 0 1 = cc in omega arith
+
+-- the summary stands between the SPIs and the stacks, and no slot in it
+pub summary-from : (shape : Shape) (k : ℕ) → inSummary shape k ≡ true → (spiEnd shape ≤ k) × (k < stackStart shape)
+summary-from shape k e = (leb-true (spiEnd shape) k (left-true _ (ltb k (stackStart shape)) e), ltb-true k (stackStart shape) (right-true (leb (spiEnd shape) k) _ e))
+
+pub before-summary : (shape : Shape) (k : ℕ) → k < spiEnd shape → inSummary shape k ≡ false
+before-summary shape k h = simp (lt-leb (spiEnd shape) k h)
+
+pub after-summary : (shape : Shape) (k : ℕ) → stackStart shape ≤ k → inSummary shape k ≡ false
+after-summary shape k h = simp (le-ltb k (stackStart shape) h, and-false)
+
+pub off-summary : (shape : Shape) (t : Slot) → Exists shape t → inSummary shape (place shape t) ≡ false
+off-summary shape Count e = before-summary shape 0 (omega arith)
+off-summary shape Limit e = before-summary shape 1 (omega arith)
+off-summary shape DistributorControl e = before-summary shape 2 (omega arith)
+off-summary shape (Interface v k) e = let b : interfaceNumber k < sourcesStart = interface-below k in before-summary shape _ (omega arith)
+off-summary shape (Sources v n) e = before-summary shape _ (omega arith)
+off-summary shape (Private v n) e = before-summary shape _ (omega arith)
+off-summary shape (Spi n) e = before-summary shape _ (omega arith)
+off-summary shape (Stack v i) e = after-summary shape _ (omega arith)
+
+-- the slot of an SPI's record
+pub spi-slot : (t : Slot) (n : ℕ) → spiOf t ≡ some n → t ≡ Spi n
+spi-slot Count n e = absurd (no-spi n e)
+spi-slot Limit n e = absurd (no-spi n e)
+spi-slot DistributorControl n e = absurd (no-spi n e)
+spi-slot (Interface v k) n e = absurd (no-spi n e)
+spi-slot (Sources v m) n e = absurd (no-spi n e)
+spi-slot (Private v m) n e = absurd (no-spi n e)
+spi-slot (Spi m) n e = cc
+spi-slot (Stack v i) n e = absurd (no-spi n e)
+
+-- an SPI's bit stands in it
+pub bit-in-summary : (shape : Shape) (n : ℕ) → Exists shape (Spi n) → inSummary shape (summaryPlace shape n) ≡ true
+bit-in-summary shape n e = simp (le-leb (spiEnd shape) (summaryPlace shape n) (omega arith), lt-ltb (summaryPlace shape n) (stackStart shape) (omega arith))
+
+-- every other place of a state has its slot
+pub every-place : (shape : Shape) (k : ℕ) → Limits shape → k < size shape → inSummary shape k ≡ false → At shape k (slotAt shape k)
 unfolding slotAt
-every-place shape k l h = go (ltb k headerWords) (ltb k (spiStart shape)) (ltb k (spiEnd shape)) refl refl refl
+every-place shape k l h off = go (ltb k headerWords) (ltb k (spiStart shape)) (ltb k (spiEnd shape)) refl refl refl
   where
     in-vcpu : headerWords ≤ k → k < spiStart shape → At shape k (vcpuSlot ((k - headerWords) / vcpuWords) ((k - headerWords) % vcpuWords))
     in-vcpu a b =
@@ -174,16 +214,27 @@ every-place shape k l h = go (ltb k headerWords) (ltb k (spiStart shape)) (ltb k
         let a : spiStart shape ≤ k = ltb-false k (spiStart shape) q in
         let b : k < spiEnd shape = ltb-true k (spiEnd shape) r in
         record { exists = (omega arith, omega arith); stands = omega arith }
-    go false false false p q r = tail-at shape k l (ltb-false k (spiEnd shape) r) h
+    go false false false p q r = tail-at shape k l (past (ltb k (stackStart shape)) refl (ltb-false k (spiEnd shape) r)) h
+      where
+        past : (b : Bool) → ltb k (stackStart shape) ≡ b → spiEnd shape ≤ k → stackStart shape ≤ k
+        past true e from = absurd (true≢false (sym (simp (le-leb (spiEnd shape) k from, e)) ∙ off))
+        past false e from = ltb-false k (stackStart shape) e
 
 -- a slot starts as it is written
 pub starting-in-range : (n : ℕ) → InRange (startingRecord (record { 0 = n }))
 unfolding startingRecord newRecord
 starting-in-range n = record { priority-byte = omega arith; mask-byte = omega arith; owner-byte = tt }
 
--- and past the records of the SPIs every word as 0
-pub tail-starts : (shape : Shape) (k : ℕ) → spiEnd shape ≤ k → startOf shape (slotAt shape k) ≡ 0
-tail-starts shape k h = ap (startOf shape) (past-spis shape k h)
+-- up to the records of the SPIs a word starts as its slot, and past them as 0
+pub head-starts : (shape : Shape) (k : ℕ) → k < spiEnd shape → startAt shape k ≡ startOf shape (slotAt shape k)
+head-starts shape k h = rw (before-summary shape k h)
+
+pub tail-starts : (shape : Shape) (k : ℕ) → spiEnd shape ≤ k → startAt shape k ≡ 0
+tail-starts shape k h = rw (past-spis shape k h) (go (inSummary shape k))
+  where
+    go : (b : Bool) → cond b 0 (startOf shape (tailSlot shape k)) ≡ 0
+    go true = refl
+    go false = refl
 
 pub start-written : (shape : Shape) (t : Slot) → CanonicalWord t (startOf shape t)
 start-written shape Count = refl

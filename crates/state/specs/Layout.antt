@@ -1,19 +1,20 @@
 -- The layout of the lent state, which is a list of 32-bit words. What it holds is document 01's: the count and the limit ("Refusal
 -- numbers", 6), the Distributor's CTLR, for each vCPU its interface values, the source bits of its SGIs and its private records, the SPI
--- records, and the stacks of what is under service. Where each word stands is the team's to say ("its size for a count and limit is the
+-- records, and the stacks of what is under service; and document 02's, Five: the summary of the ready. Where each word stands is the team's to say ("its size for a count and limit is the
 -- team's"), and is said here alone: other definitions name a slot. docs/STATE.md has the picture.
 use mathlib.Core.List.{List}
 use mathlib.Core.Path.{_≡_}
 use mathlib.Core.Bool.{Bool, false, cond, _&&_, _||_}
 use mathlib.Core.Option.{Option, none, some}
 use Prim.Native.Nat.{ℕ, zero, suc, _+_, _*_, _-_, _/_, _%_, _≤_, _<_}
-use lib.Dec.{eqb, ltb}
+use lib.Dec.{eqb, leb, ltb}
 use lib.ListN.{length}
 use Rattle.state.specs.declared.layout.Shape.{Shape}
 use Rattle.state.specs.declared.layout.InterfaceValue.{InterfaceValue}
 use Rattle.state.specs.declared.layout.InterfaceValue.the-variants.{Control, PriorityMask, BinaryPoint, Depth}
 
--- what a word of the state is for; v is a vCPU's number, n an interrupt's
+-- what a word of the state is for; v is a vCPU's number, n an interrupt's. The summary's words are no slots: they say again what the records
+-- say, and are written with these (`put` in Words.antt)
 pub data Slot : Type 0 where
   Count : Slot
   Limit : Slot
@@ -61,9 +62,20 @@ spiStart shape = vcpuStart (shape .count)
 abbrev pub spiEnd : Shape → ℕ
 spiEnd shape = spiStart shape + (shape .limit - firstSpi)
 
+-- the summary: a word for every 32 SPIs
+abbrev pub summaryStart : Shape → ℕ
+summaryStart shape = spiEnd shape
+
+abbrev pub summaryWords : Shape → ℕ
+summaryWords shape = (shape .limit - 1) / 32
+
+-- where the bit of the SPI n stands: the word's place, and in it the bit n % 32
+abbrev pub summaryPlace : Shape → ℕ → ℕ
+summaryPlace shape n = summaryStart shape + (n - firstSpi) / 32
+
 -- the stacks stand last
 abbrev pub stackStart : Shape → ℕ
-stackStart shape = spiEnd shape
+stackStart shape = summaryStart shape + summaryWords shape
 
 abbrev pub size : Shape → ℕ
 size shape = stackStart shape + stackCapacity * shape .count
@@ -95,10 +107,14 @@ headerSlot k = cond (eqb k 0) Count (cond (eqb k 1) Limit DistributorControl)
 unfoldable pub vcpuSlot : ℕ → ℕ → Slot
 vcpuSlot v r = cond (ltb r sourcesStart) (Interface v (interfaceOf r)) (cond (ltb r privateStart) (Sources v (r - sourcesStart)) (Private v (r - privateStart)))
 
--- past the records of the SPIs
+-- past the summary
 abbrev pub tailSlot : Shape → ℕ → Slot
 tailSlot shape k = Stack ((k - stackStart shape) / stackCapacity) ((k - stackStart shape) % stackCapacity)
 
+abbrev pub inSummary : Shape → ℕ → Bool
+inSummary shape k = leb (summaryStart shape) k && ltb k (stackStart shape)
+
+-- of places that are not in the summary
 unfoldable pub slotAt : Shape → ℕ → Slot
 slotAt shape k =
     cond (ltb k headerWords) (headerSlot k)
@@ -146,6 +162,17 @@ numberOf (Sources v n) = n
 numberOf (Private v n) = n
 numberOf (Spi n) = n
 numberOf (Stack v i) = i
+
+-- the SPI whose record it is
+abbrev pub spiOf : Slot → Option ℕ
+spiOf Count = none
+spiOf Limit = none
+spiOf DistributorControl = none
+spiOf (Interface v k) = none
+spiOf (Sources v n) = none
+spiOf (Private v n) = none
+spiOf (Spi n) = some n
+spiOf (Stack v i) = none
 
 -- other definitions ask by these, so that a new kind of slot is none of theirs
 abbrev pub sameKind : Slot → Slot → Bool

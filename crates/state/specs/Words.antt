@@ -1,27 +1,53 @@
 -- What the words of a state mean, slot by slot: "any stored bits decode to exactly one record, source set, stack entry or register value"
 -- (document 01, "Refusal numbers"). A word may have bits that count for nothing; what is written has none (`Canonical`), so that equal
--- states are equal words.
+-- states are equal words. Beside the slots stands the summary of the ready, which says again what the records say (`Exact`).
 use mathlib.Core.Path.{_≡_}
-use mathlib.Core.Bool.{Bool, cond}
+use mathlib.Core.Bool.{Bool, true, cond}
 use mathlib.Core.List.{List}
-use Prim.Native.Nat.{ℕ, _+_, _*_, _/_, _%_, _≤_, _<_}
+use mathlib.Core.Option.{Option, none, some}
+use Prim.Native.Nat.{ℕ, _+_, _*_, _-_, _/_, _%_, _^_, _≤_, _<_, min}
 use lib.Dec.{eqb}
 use lib.ListN.{getD, set}
 use Rattle.interrupt.specs.Types.{isPrivateId, priorityOf}
-use Rattle.interrupt.specs.Record.{startingRecord}
+use Rattle.interrupt.specs.Record.{startingRecord, isReady}
 use Rattle.interrupt.specs.declared.record.InterruptRecord.{InterruptRecord}
-use Rattle.word.specs.Word.{recordOf, wordOf}
+use Rattle.word.specs.Word.{bitOf, flag, recordOf, wordOf}
 use Rattle.state.specs.declared.layout.Shape.{Shape}
 use Rattle.state.specs.declared.layout.InterfaceValue.{InterfaceValue}
 use Rattle.state.specs.declared.layout.InterfaceValue.the-variants.{Control, PriorityMask, BinaryPoint, Depth}
 use Rattle.state.specs.declared.words.Entry.{Entry}
-use Rattle.state.specs.Layout.{Slot, Count, Limit, DistributorControl, Interface, Sources, Private, Spi, Stack, stackCapacity, place, Exists, Room}
+use Rattle.state.specs.Loop.{upTo}
+use Rattle.state.specs.Layout.{Slot, Count, Limit, DistributorControl, Interface, Sources, Private, Spi, Stack, firstSpi, summaryStart, summaryWords, summaryPlace, stackCapacity, place, inSummary, slotAt, Exists, spiOf, Room}
 
 abbrev pub wordAt : Shape → Slot → List ℕ → ℕ
 wordAt shape t s = getD s (place shape t) 0
 
+-- the word w with its bit i made b: the bits above it, b, and the bits below it
+unfoldable pub withBit : ℕ → Bool → ℕ → ℕ
+withBit i b w = (w / 2 ^ i / 2 * 2 + bitOf b) * 2 ^ i + w % 2 ^ i
+
+-- the summary: "one bit per SPI" (document 02, Five)
+abbrev pub summaryAt : Shape → ℕ → List ℕ → ℕ
+summaryAt shape n s = getD s (summaryPlace shape n) 0
+
+unfoldable pub readyBit : Shape → ℕ → List ℕ → Bool
+readyBit shape n s = flag (n % 32) (summaryAt shape n s)
+
+unfoldable pub withReadyBit : Shape → ℕ → Bool → List ℕ → List ℕ
+withReadyBit shape n b s = set s (summaryPlace shape n) (withBit (n % 32) b (summaryAt shape n s))
+
+-- no bit set: what loading starts from, for "Images don't carry the bits; loading makes them"
+unfoldable pub withoutSummary : Shape → List ℕ → List ℕ
+withoutSummary shape s = upTo (λ g r. set r (summaryStart shape + g) 0) (summaryWords shape) s
+
+-- "each transition called on a record sets its bit anew": the word w is a record of this SPI, if of one
+abbrev pub summed : Shape → Option ℕ → ℕ → List ℕ → List ℕ
+summed shape none w s = s
+summed shape (some n) w s = withReadyBit shape n (isReady (recordOf w)) s
+
+-- a word written at a slot, and with an SPI's record its bit: there is no other way to write one
 abbrev pub put : Shape → Slot → ℕ → List ℕ → List ℕ
-put shape t w s = set s (place shape t) w
+put shape t w s = summed shape (spiOf t) w (set s (place shape t) w)
 
 -- the record of the number n as the vCPU v meets it: below 32 each vCPU has its own
 unfoldable pub recordSlot : ℕ → ℕ → Slot
@@ -118,6 +144,10 @@ startOf shape (Private v n) = wordOf (startingRecord (record { 0 = n }))
 startOf shape (Spi n) = wordOf (startingRecord (record { 0 = n }))
 startOf shape (Stack v i) = 0
 
+-- a word of the state: "All start at 0", and so does the summary, for no SPI starts enabled
+abbrev pub startAt : Shape → ℕ → ℕ
+startAt shape k = cond (inSummary shape k) 0 (startOf shape (slotAt shape k))
+
 -- the word that is written for what a word means
 abbrev pub rewritten : Slot → ℕ → ℕ
 rewritten Count w = w
@@ -133,7 +163,16 @@ rewritten (Stack v i) w = entryWord (entryOf w)
 abbrev pub CanonicalWord : Slot → ℕ → Type 0
 CanonicalWord t w = rewritten t w ≡ w
 
--- a state as we write it: each word is, and what lies past the newest entry of a stack is cleared
+-- how many SPIs the word at this place of the summary has bits for: 32, but of the last as many as are left
+abbrev pub spisIn : Shape → ℕ → ℕ
+spisIn shape k = min 32 (shape .limit - firstSpi - 32 * (k - summaryStart shape))
+
+-- a state as we write it: each word is, what lies past the newest entry of a stack is cleared, and a bit of the summary that is of no SPI is 0
 pub record Canonical (shape : Shape) (s : List ℕ) : Type 0 where
   pub written : (t : Slot) → Exists shape t → CanonicalWord t (wordAt shape t s)
   pub cleared : (v i : ℕ) → v < shape .count → wordAt shape (Interface v Depth) s ≤ i → i < stackCapacity → wordAt shape (Stack v i) s ≡ 0
+  pub spared : (k : ℕ) → inSummary shape k ≡ true → getD s k 0 < 2 ^ spisIn shape k
+
+-- "set exactly when it is enabled, pending and not active" (document 02, Five)
+pub record Exact (shape : Shape) (s : List ℕ) : Type 0 where
+  pub exact : (n : ℕ) → Exists shape (Spi n) → readyBit shape n s ≡ isReady (recordOf (wordAt shape (Spi n) s))

@@ -4,8 +4,8 @@ ghost use Prim.Native.Nat.{ℕ, _<_};
 ghost use Rattle.state.specs.declared.layout.Shape.{Shape};
 ghost use Rattle.interrupt.specs.Record.{startingRecord};
 ghost use Rattle.word.specs.Word.{wordOf};
-ghost use Rattle.state.specs.Layout.{Limits, Room, vcpuWords, size, headerSlot, vcpuSlot, slotAt};
-ghost use Rattle.state.specs.Words.{startOf};
+ghost use Rattle.state.specs.Layout.{Limits, Room, vcpuWords, size, headerSlot, vcpuSlot};
+ghost use Rattle.state.specs.Words.{startOf, startAt};
 ghost use Rattle.state.specs.Fresh.{fresh};
 use crate::layout::COUNT;
 use crate::layout::FIRST_SPI;
@@ -51,7 +51,7 @@ fn vcpu_word(at: usize) -> u32
 
 fn word_at(shape: Shape, at: usize) -> u32
     requires { ⌜ (Limits shape) × (at < size shape) ⌝ }
-    ensures { λ r. ⌜ r ≡ startOf shape (slotAt shape at) ⌝ }
+    ensures { λ r. ⌜ r ≡ startAt shape at ⌝ }
 {
     if at < HEADER_WORDS {
         return header_word(shape, at);

@@ -1,7 +1,7 @@
 // Where each word of the state stands. Every place is linear in the vCPU's and the interrupt's number.
 ghost use mathlib.Core.Path.{_≡_};
-ghost use Prim.Native.Nat.{_+_, _<_};
-ghost use Rattle.state.specs.Layout.{interfaceNumber, sourcesStart, vcpuStart, spiStart, spiEnd, stackStart, size, Limits, Inside, Placed, Interface, Sources, Private, Spi, Stack};
+ghost use Prim.Native.Nat.{_<_};
+ghost use Rattle.state.specs.Layout.{interfaceNumber, sourcesStart, vcpuStart, spiStart, spiEnd, summaryWords, summaryPlace, stackStart, size, Limits, Inside, Placed, Interface, Sources, Private, Spi, Stack};
 ghost use Rattle.state.specs.Words.{recordSlot, RecordThere};
 use interrupt::GicVcpuId;
 use interrupt::IntId;
@@ -31,6 +31,7 @@ pub const STACK_CAPACITY: u32 = 128;
 pub const LARGEST_SIZE: usize = HEADER_WORDS
     + VCPU_WORDS * 8
     + (1020 - FIRST_SPI) as usize
+    + (1020 - 1) / 32
     + STACK_CAPACITY as usize * 8;
 
 // How many vCPUs, and the first number that is no interrupt.
@@ -75,11 +76,19 @@ impl Shape {
         self.spi_start() + (self.limit - FIRST_SPI) as usize
     }
 
+    // How many words the summary of the ready has: one for every 32 SPIs.
+    pub fn summary_words(self) -> usize
+        requires { ⌜ Limits self ⌝ }
+        ensures { λ r. ⌜ r ≡ summaryWords self ⌝ }
+    {
+        (self.limit as usize - 1) / 32
+    }
+
     fn stack_start(self) -> usize
         requires { ⌜ Limits self ⌝ }
         ensures { λ r. ⌜ r ≡ stackStart self ⌝ }
     {
-        self.spi_end()
+        self.spi_end() + self.summary_words()
     }
 
     // How many words a state takes.
@@ -136,6 +145,14 @@ pub fn record_place(shape: Shape, vcpu: GicVcpuId, intid: IntId) -> usize
     } else {
         spi_place(shape, intid)
     }
+}
+
+// The word that has an SPI's bit.
+pub fn summary_place(shape: Shape, intid: IntId) -> usize
+    requires { ⌜ Inside shape (Spi (intid .0)) ⌝ }
+    ensures { λ r. ⌜ (r ≡ summaryPlace shape (intid .0)) × (r < size shape) ⌝ }
+{
+    shape.spi_end() + ((intid.0 - FIRST_SPI) / 32) as usize
 }
 
 pub fn stack_place(shape: Shape, vcpu: GicVcpuId, index: usize) -> usize

@@ -1,7 +1,11 @@
 // What the words of a state mean, and what is written for it: two functions for each kind of slot.
 ghost use mathlib.Core.Path.{_≡_};
-ghost use Rattle.state.specs.Layout.{Interface, Sources, Stack, Room, Placed};
-ghost use Rattle.state.specs.Words.{Reached, HoldsSlot, recordSlot, recordAt, withRecord, sourcesAt, withSources, kept, interfaceAt, withInterface, keptDistributorControl, distributorControlAt, withDistributorControl, enabledAt, entryOf, entryWord, entryAt, withEntry, withoutEntry};
+ghost use Prim.Native.Nat.{_<_};
+ghost use lib.ListN.{length, set};
+ghost use Rattle.interrupt.specs.Record.{isReady};
+ghost use Rattle.word.specs.Word.{recordOf};
+ghost use Rattle.state.specs.Layout.{Interface, Sources, Spi, Stack, Room, Placed};
+ghost use Rattle.state.specs.Words.{withBit, readyBit, withoutSummary, put, Reached, HoldsSlot, recordSlot, recordAt, withRecord, sourcesAt, withSources, kept, interfaceAt, withInterface, keptDistributorControl, distributorControlAt, withDistributorControl, enabledAt, entryOf, entryWord, entryAt, withEntry, withoutEntry};
 use crate::layout::DISTRIBUTOR_CONTROL;
 use crate::layout::InterfaceValue;
 use crate::layout::Shape;
@@ -9,6 +13,7 @@ use crate::layout::interface_place;
 use crate::layout::record_place;
 use crate::layout::sources_place;
 use crate::layout::stack_place;
+use crate::layout::summary_place;
 use interrupt::GicVcpuId;
 use interrupt::IntId;
 use interrupt::InterruptRecord;
@@ -30,7 +35,45 @@ pub fn record(words: &[u32], shape: Shape, vcpu: GicVcpuId, intid: IntId) -> Int
     decode(words[at])
 }
 
-// The one function that stores a record's word, for whoever has its place already; setup's fill stores every word once.
+fn with_bit(word: u32, bit: u32, on: bool) -> u32
+    requires { ⌜ bit < 32 ⌝ }
+    ensures { λ r. ⌜ r ≡ withBit bit on word ⌝ }
+{
+    let one = 1 << bit;
+    let rest = word - (word & one);
+    if on { rest + one } else { rest }
+}
+
+// Of a record's word the lowest three bits: enabled and pending, and not active.
+const READY: u32 = 3;
+
+// Whether the record of this word is ready.
+pub fn ready_word(word: u32) -> bool
+    ensures { λ r. ⌜ r ≡ isReady (recordOf word) ⌝ }
+{
+    word % 8 == READY
+}
+
+// What the summary says of an SPI.
+pub fn ready_bit(words: &[u32], shape: Shape, spi: IntId) -> bool
+    requires { ⌜ HoldsSlot shape (Spi (spi .0)) (now words) ⌝ }
+    ensures { λ r. ⌜ r ≡ readyBit shape (spi .0) (now (words .entry)) ⌝ }
+{
+    let summary = summary_place(shape, spi);
+    (words[summary] >> (spi.0 % 32)) % 2 == 1
+}
+
+// An SPI's record and its bit of the summary are written together, here alone.
+fn put_spi_word(words: &mut [u32], shape: Shape, spi: IntId, at: usize, word: u32)
+    requires { ⌜ (HoldsSlot shape (Spi (spi .0)) (now words)) × (Placed shape (Spi (spi .0)) at) ⌝ }
+    ensures { λ r. ⌜ now (words .exit) ≡ put shape (Spi (spi .0)) word (now (words .entry)) ⌝ }
+{
+    words[at] = word;
+    let summary = summary_place(shape, spi);
+    words[summary] = with_bit(words[summary], spi.0 % 32, ready_word(word));
+}
+
+// The one function that stores a record, for whoever has its place already; setup's fill stores every word once.
 pub fn put_record_at(
     words: &mut [u32],
     shape: Shape,
@@ -42,7 +85,35 @@ pub fn put_record_at(
     requires { ⌜ (Reached shape (vcpu .0) (intid .0) (now words)) × (Placed shape (recordSlot (vcpu .0) (intid .0)) at) ⌝ }
     ensures { λ r. ⌜ now (words .exit) ≡ withRecord shape (vcpu .0) (intid .0) «record» (now (words .entry)) ⌝ }
 {
-    words[at] = encode(record);
+    let word = encode(record);
+    if intid.is_private() {
+        words[at] = word;
+    } else {
+        put_spi_word(words, shape, intid, at, word);
+    }
+}
+
+// With a test, for a loop that only clears is made a call of memset, which nobody provides.
+fn clear_word(words: &mut [u32], at: usize)
+    requires { ⌜ at < length (now words) ⌝ }
+    ensures { λ r. ⌜ now (words .exit) ≡ set (now (words .entry)) at 0 ⌝ }
+{
+    if words[at] != 0 {
+        words[at] = 0;
+    }
+}
+
+pub fn clear_summary(words: &mut [u32], shape: Shape)
+    requires { ⌜ Room shape (now words) ⌝ }
+    ensures { λ r. ⌜ now (words .exit) ≡ withoutSummary shape (now (words .entry)) ⌝ }
+{
+    let summary = shape.spi_end();
+    let many = shape.summary_words();
+    let mut g = 0;
+    while g < many {
+        clear_word(words, summary + g);
+        g += 1;
+    }
 }
 
 pub fn put_record(

@@ -17,8 +17,9 @@ use Rattle.state.specs.Words.{recordAt}
 use Rattle.select.specs.declared.Candidate.{Candidate}
 use Rattle.select.specs.declared.Selected.{Selected}
 use Rattle.select.specs.declared.Selected.the-variants.{Best, Nothing}
-use Rattle.select.specs.Select.{candidate, candidateFor, bothOn, IsBest}
-use Rattle.select.proofs.Meaning.{candidate-idle, best-is, is-best}
+use Rattle.select.specs.Select.{candidate, candidateByRecord, candidateFor, bothOn, IsBest}
+use Rattle.select.proofs.Agree.{candidates-agree, candidate-idle}
+use Rattle.select.proofs.Meaning.{best-is, is-best}
 use Rattle.service.specs.Service.{depthAt}
 use Rattle.acknowledge.specs.Acknowledge as acknowledge-of
 use Rattle.acknowledge.specs.Acknowledge.{preempts, offer, sourceOf, given}
@@ -97,8 +98,8 @@ module _ (shape : Shape) (v n : ℕ) (s : List ℕ) (h : Controls shape s) (exis
 module _ (shape : Shape) (v n : ℕ) (s : List ℕ) (h : Controls shape s) (exists : v < shape .count) (numbered : n < shape .limit)
     (takes : Takes shape v n s) (pending : recordAt shape v n s .pending ≡ true) where
   is-candidate : candidate shape v s n ≡ true
-  unfolding candidate
-  is-candidate = simp (takes .for-it, pending, takes .ready, lt-ltb _ _ (takes .unmasked))
+  unfolding candidateByRecord
+  is-candidate = candidates-agree shape v s (h .lawful .orderly .summary) n numbered ∙ simp (takes .for-it, pending, takes .ready, lt-ltb _ _ (takes .unmasked))
 
   pub is-number : givesNumber (acknowledge-of.acknowledge shape v s) ≡ true
   is-number = candidate-number shape v n s h exists numbered (takes .on) is-candidate (takes .preempts)
@@ -127,7 +128,7 @@ active-waits shape v n s h exists numbered active source p = go (offer shape v s
         let is = best-is shape v s e (offer-is shape v s e o .best-one) in
         let value : e .intid .0 + 1024 * sourceOf shape v (e .intid .0) s ≡ n + 1024 * source = simp (lt-ltb (depthAt shape v s) stackCapacity room) at q in
         let same : e .intid .0 ≡ n = omega (arith, value, numbered, is .below, h .lawful .in-range .state .limits .few-numbers) in
-        absurd (false≢true (sym (candidate-idle shape v s n (rw same at (is .chosen))) ∙ active))
+        absurd (false≢true (sym (candidate-idle shape v s (h .lawful .orderly .summary) n (rw same at (is .below)) (rw same at (is .chosen))) ∙ active))
 
 -- the bit of a vCPU in a wake set
 pub wake-bit : (shape : Shape) (v : ℕ) (before after : List ℕ) → v < shape .count → isSpurious (acknowledge-of.acknowledge shape v before) ≡ true

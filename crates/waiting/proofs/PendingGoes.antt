@@ -19,7 +19,8 @@ use Rattle.state.specs.Layout.{Slot}
 use Rattle.state.specs.Words.{wordAt, RecordThere, recordAt, changed}
 use Rattle.state.proofs.Tests.{left-true, right-true}
 use Rattle.select.specs.declared.Candidate.{Candidate}
-use Rattle.select.proofs.Meaning.{candidate-idle, best-is}
+use Rattle.select.proofs.Agree.{candidate-idle}
+use Rattle.select.proofs.Meaning.{best-is}
 use Rattle.acknowledge.specs.Acknowledge.{givenRecord, given}
 use Rattle.acknowledge.proofs.Offers.{offer-is}
 use Rattle.delivery.proofs.Given.{given-record}
@@ -66,7 +67,7 @@ module _ (shape : Shape) (n : ℕ) (past : 16 ≤ n) (s : List ℕ) (h : Control
       let r = recordAt shape u m s in
       let number : m ≡ n = omega (arith, answers, there .numbered, h .lawful .in-range .state .limits .few-numbers) in
       let best = best-is shape u s e (offer-is shape u s e (o .offered) .best-one) in
-      let idle = candidate-idle shape u s m (best .chosen) in
+      let idle = candidate-idle shape u s (h .lawful .orderly .summary) m (best .below) (best .chosen) in
       subst (λ (k : ℕ). pends shape u k (given shape u e s) ≡ false) number
       (ap (λ (x : InterruptRecord). x .pending) (given-record shape u e s (givable shape s (lawful-sound (h .lawful)) u e o) (rw number past))
       ∙ handed u r ∙ unnoted r (h .lawful .orderly .records u m (record { numbered = best .below; banked = λ low. o .exists })) idle)

@@ -1,10 +1,10 @@
 //! How many words a state takes: `docs/STATE.md`, "Size".
 
 /// The layout of the words. It changes when a kept state of an earlier version means something else, so keep it beside words that you keep.
-pub const LAYOUT: u32 = 2;
+pub const LAYOUT: u32 = 3;
 
 /// The most words that a state takes: those of 8 vCPUs and a limit of 1020.
-pub const MAX_STATE_WORDS: usize = 2431;
+pub const MAX_STATE_WORDS: usize = 2462;
 
 /// In front: count, limit, CTLR of the Distributor.
 const HEADER: u64 = 3;
@@ -12,8 +12,10 @@ const HEADER: u64 = 3;
 const VCPU: u64 = 52;
 /// For each vCPU: its stack.
 const STACK: u64 = 128;
-/// The numbers below are private; each SPI, from here on, has a record.
+/// The numbers below are private; each SPI, from here on, has a record, and a bit that says whether it is ready.
 const SPIS: u64 = 32;
+/// So many of these bits are a word.
+const BITS: u64 = 32;
 
 /// How many words a state takes: `count` is 1 to 8 vCPUs, and `limit`, 32 to 1020, the first number that is no interrupt. In a constant it
 /// sizes an array, and numbers that are out of range do not compile:
@@ -21,7 +23,7 @@ const SPIS: u64 = 32;
 /// ```
 /// const WORDS: usize = vgic::state_words(2, 40).expect("in range");
 /// let words = [0_u32; WORDS];
-/// assert_eq!(words.len(), 371);
+/// assert_eq!(words.len(), 372);
 /// ```
 ///
 /// ```compile_fail,E0080
@@ -35,7 +37,8 @@ const SPIS: u64 = 32;
 pub const fn state_words(count: u64, limit: u64) -> Option<usize> {
     match (count, limit) {
         (1..=8, SPIS..=1020) => {
-            Some((HEADER + VCPU * count + (limit - SPIS) + STACK * count) as usize)
+            let summary = (limit - 1) / BITS;
+            Some((HEADER + VCPU * count + (limit - SPIS) + summary + STACK * count) as usize)
         }
         _ => None,
     }

@@ -11,6 +11,8 @@ const WORDS: usize = state_words(COUNT, LIMIT).expect("in range");
 const FIRST: GicVcpuId = GicVcpuId(0);
 const SECOND: GicVcpuId = GicVcpuId(1);
 const SPI: IntId = IntId(33);
+/// The word before the stacks: a bit for each SPI that is ready.
+const SUMMARY: usize = WORDS - 2 * 128 - 1;
 
 /// Everything on; vCPU 1 serves SPI 33, whose line is held, and has SGI 5 waiting, which is more urgent.
 fn busy() -> Vec<u32> {
@@ -132,13 +134,21 @@ fn what_is_not_saved() {
     let mut exact = vec![0; image.len()];
     assert_eq!(Gic::lend(&mut words).save(&mut exact), Ok(image.len()));
     assert_eq!(exact, image);
-    // An odd entry; SGI 0 pending without a source; and words that are no state, which comes first.
+    // An odd entry; SGI 0 pending without a source; a bit of the summary that is false; and words that are no state, which comes first.
     let mut odd = words.clone();
     odd[WORDS - 128] += 1 << 10;
     refused(&mut odd, MAX_IMAGE_BYTES, Refusal::Image);
     let mut pending = words.clone();
     pending[3 + 20] |= 2;
     refused(&mut pending, 0, Refusal::Image);
+    for number in 32..40 {
+        let mut untrue = words.clone();
+        untrue[SUMMARY] ^= 1 << (number - 32);
+        refused(&mut untrue, MAX_IMAGE_BYTES, Refusal::Image);
+    }
+    let mut past = words.clone();
+    past[SUMMARY] |= 1 << 8; // no SPI's
+    assert_eq!(saved(&mut past), image);
     refused(&mut pending[..WORDS - 1], 0, Refusal::BrokenState);
     refused(&mut [], 0, Refusal::BrokenState);
 }
@@ -172,6 +182,7 @@ fn longest(count: usize, limit: usize) -> Vec<u32> {
     }
     let targets = (1 << count) - 1;
     words.resize(words.len() + limit - 32, 0xffe7 | targets << 16);
+    words.resize(words.len() + (limit - 1) / 32, 0); // they are active, so none is ready
     for _ in 0..count {
         let even = (0..128).rev().map(|half| 2 * half);
         words.extend(even.map(|priority| priority << 10 | (limit as u32 - 1)));

@@ -120,6 +120,29 @@ fn a_rise_from_a_full_stack_is_in_no_wake_set() {
     assert_eq!(take(&mut gic, SECOND), 33);
 }
 
+/// Words that no history makes: the bit of SPI 33 is false, either way. The line follows it, until the record is next written.
+#[test]
+fn a_line_follows_the_summary() {
+    let summary = WORDS - 2 * 128 - 1;
+    let mut words = ready();
+    words[summary] = 2;
+    let mut gic = Gic::lend(&mut words);
+    assert_eq!(lines(&gic), [false, true]);
+    assert!(!gic.interrupt(FIRST, SPI).unwrap().pending);
+    let down = gic.set_level(FIRST, SPI, false);
+    assert!(down.unwrap().wake.is_empty());
+    assert_eq!(lines(&gic), [false, false]);
+    gic.set_level(FIRST, SPI, true).unwrap();
+    words[summary] = 1 << 8; // no SPI's
+    let mut gic = Gic::lend(&mut words);
+    assert_eq!(lines(&gic), [false, false]);
+    assert_eq!(take(&mut gic, SECOND), 1023);
+    let up = gic.set_level(FIRST, SPI, true);
+    assert!(up.unwrap().wake.vcpus().eq([SECOND]));
+    assert_eq!(take(&mut gic, SECOND), 33);
+    assert_eq!(words[summary], 1 << 8);
+}
+
 #[test]
 fn an_interrupt_as_it_stands() {
     let mut words = ready();

@@ -62,8 +62,8 @@ fn setup() {
     refused(&mut words, Refusal::Limits, fresh(0, 40));
     refused(&mut words, Refusal::Limits, fresh(1, 1021));
     refused(&mut words, Refusal::ShortState, fresh(2, 40));
-    refused(&mut words[..190], Refusal::ShortState, fresh(1, 40));
-    assert_eq!((state_words(1, 40), state_words(9, 40)), (Some(191), None));
+    refused(&mut words[..191], Refusal::ShortState, fresh(1, 40));
+    assert_eq!((state_words(1, 40), state_words(9, 40)), (Some(192), None));
 }
 
 #[test]
@@ -72,8 +72,8 @@ fn words_that_are_no_state() {
         vec![],
         vec![1],
         vec![1, 40],
-        vec![u32::MAX; 191],
-        ready()[..190].to_vec(),
+        vec![u32::MAX; 192],
+        ready()[..191].to_vec(),
     ] {
         refused(&mut words, Refusal::BrokenState, |gic| {
             gic.read_v2_cpu_interface(FIRST, offset::GICC_IAR, Dword)

@@ -39,5 +39,5 @@ fn numbers_of_no_state() {
 fn a_constant_of_each_form() {
     const WORDS: usize = state_words(4, 288).expect("in range");
     const NONE: Option<usize> = state_words(0, 40);
-    assert_eq!(([0_u8; WORDS].len(), NONE), (979, None));
+    assert_eq!(([0_u8; WORDS].len(), NONE), (987, None));
 }

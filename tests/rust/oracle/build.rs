@@ -3,6 +3,8 @@
 //! Both are compiled with patches, THREE in all, and are otherwise as they are. Each is one departure from the Rust: in v2.rs, below, document
 //! 01's "its priority is below the running priority" and request Two of document 02, the binary point; in interrupt.rs request Four, a held
 //! line, which is in `source`, since the program `interrupt` has it too. After the end of interrupt.rs our `access` is declared.
+//!
+//! Request Five is no patch: neither file says which SPIs are candidates. The stand-in does, and goes by the summary's bits (`redistributor`).
 
 /// Both go where a candidate has been found and nothing has been changed yet, the second before the first. After them v2.rs uses the
 /// candidate's priority once more: it is pushed on the stack.

@@ -1,5 +1,5 @@
 -- `select::highest_pending` meets its contract. Assumes nothing.
-use Rattle.select.proofs.KeyLaws.{private-inside, spis-inside, key-private, key-spis, selected-best}
+use Rattle.select.proofs.KeyLaws.{private-inside, key-private, key-spis, selected-best}
 use borrow.Author.Needs.{needs}
 use Rattle.select.proofs.highest_pending.Statement.{statement}
 use Rattle.select.proofs.highest_pending.Tie as tie
@@ -30,25 +30,11 @@ least-key-requires c κs =
       inside = rw (placed .record-place .ensures .at) (private-inside (a .shape) (a .vcpu .0) (a .words .now) (start .pre));
     }
 
-spi-start-requires : tie.Need-spi-start-requires
-spi-start-requires c κs = search needs
-
-sub-spis : tie.Need-sub-spis
-sub-spis c = search needs
-
 spi-test-requires : tie.Need-spi-test-requires
 spi-test-requires c κs = search needs
 
-least-key-requires-2 : tie.Need-least-key-requires-2
-least-key-requires-2 c κs =
-    let from = c .before in
-    let start = from .before .before .before .before .before .before .before in
-    let a = start .args in
-    record {
-      order = search needs;
-      numbers = search needs;
-      inside = rw (from .spi-start .ensures) (spis-inside (a .shape) (a .vcpu .0) (a .words .now) (start .pre));
-    }
+least-ready-requires : tie.Need-least-ready-requires
+least-ready-requires c κs = search needs
 
 of-key-requires : tie.Need-of-key-requires
 of-key-requires c κs = search needs
@@ -58,15 +44,14 @@ returns : tie.Need-returns
 returns c =
     let spis = c .before in
     let tested = spis .before in
-    let from = tested .before in
-    let private = from .before in
+    let private = tested .before in
     let own = private .before in
     let placed = own .before in
     let masked = placed .before .before in
     let start = masked .before .before in
     let a = start .args in
     let limits = start .pre .state .limits in
-    rw (c .of-key .ensures, spis .least-key2 .ensures, tested .spi-test .ensures, from .spi-start .ensures, private .least-key .ensures, own .private-test .ensures, placed .record-place .ensures .at, masked .v2-priority-mask .ensures, key-private (a .shape) (a .vcpu .0) (a .words .now), key-spis (a .shape) (a .vcpu .0) (a .words .now) limits (search needs))
+    rw (c .of-key .ensures, spis .least-ready .ensures, tested .spi-test .ensures, private .least-key .ensures, own .private-test .ensures, placed .record-place .ensures .at, masked .v2-priority-mask .ensures, key-private (a .shape) (a .vcpu .0) (a .words .now), key-spis (a .shape) (a .vcpu .0) (a .words .now) limits (search needs))
     (selected-best (a .shape) (a .vcpu .0) (a .words .now) limits)
 
 pub highest-pending-spec : {M : Type 1} → statement M
@@ -79,9 +64,7 @@ highest-pending-spec =
     record-place-requires
     private-test-requires
     least-key-requires
-    spi-start-requires
-    sub-spis
     spi-test-requires
-    least-key-requires-2
+    least-ready-requires
     of-key-requires
     returns)

@@ -6,14 +6,14 @@ use mathlib.Core.Path.{_≡_, _∙_}
 use native.Mathlib.Nat.{sub-self}
 use native.Mathlib.Omega.{arith}
 use Rattle.select.specs.declared.WordTest.{WordTest}
-use Rattle.select.specs.Keys.{withWord, leastKey}
+use Rattle.select.specs.Keys.{withWord, leastKey, everyNumber}
 use borrow.Author.Needs.{needs}
 use Rattle.select.proofs.least_key.Statement.{statement}
 use Rattle.select.proofs.least_key.Tie as tie
 
 -- a turn of the loop is a step of the definition
 one-more : (test : WordTest) (offset first n : ℕ) (s : List ℕ) (start : ℕ) → first ≤ n
-    → withWord test n (getD s (offset + n) 0) (leastKey test offset first s start (n - first)) ≡ leastKey test offset first s start (n + 1 - first)
+    → withWord test n (getD s (offset + n) 0) (leastKey everyNumber test offset first s start (n - first)) ≡ leastKey everyNumber test offset first s start (n + 1 - first)
 unfolding leastKey
 one-more test offset first n s start h =
     let next : n + 1 - first ≡ suc (n - first) = omega arith in
@@ -21,7 +21,7 @@ one-more test offset first n s start h =
     rw (next, back)
 
 abbrev Inv-loop : tie.InvT-loop
-Inv-loop words offset first end test start key₀ n₀ key n = (first ≤ n) × (n ≤ end) × (key ≡ leastKey test offset first words start (n - first))
+Inv-loop words offset first end test start key₀ n₀ key n = (first ≤ n) × (n ≤ end) × (key ≡ leastKey everyNumber test offset first words start (n - first))
 
 abbrev μ-loop : tie.MeasureT-loop
 μ-loop words offset first end test start key₀ n₀ key n = end - n

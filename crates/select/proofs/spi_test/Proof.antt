@@ -9,17 +9,11 @@ use Rattle.select.proofs.spi_test.Statement.{statement}
 use Rattle.select.proofs.spi_test.Tie as tie
 
 -- the bit of a vCPU in the mask byte
-care-is : (v : ℕ) → 131 + 65536 * 2 ^ v + 4 ≡ careOf (spiBits v)
+care-is : (v : ℕ) → 128 + 65536 * 2 ^ v ≡ careOf (spiBits v)
 care-is v = omega (arith, pow-add 2 16 v)
 
-wanted-is : (v : ℕ) → 131 + 65536 * 2 ^ v ≡ wantedOf (spiBits v)
+wanted-is : (v : ℕ) → 128 + 65536 * 2 ^ v ≡ wantedOf (spiBits v)
 wanted-is v = omega (arith, pow-add 2 16 v)
-
-add-wanted : tie.Need-add-wanted
-add-wanted c = search needs
-
-add-wanted-2 : tie.Need-add-wanted-2
-add-wanted-2 c = search needs
 
 cast-wanted : tie.Need-cast-wanted
 cast-wanted c = search needs
@@ -27,11 +21,8 @@ cast-wanted c = search needs
 shl-wanted : tie.Need-shl-wanted
 shl-wanted c = search needs
 
-add-wanted-3 : tie.Need-add-wanted-3
-add-wanted-3 c = search needs
-
-add-care : tie.Need-add-care
-add-care c = search needs
+add-wanted : tie.Need-add-wanted
+add-wanted c = search needs
 
 returns : tie.Need-returns
 returns c =
@@ -39,4 +30,4 @@ returns c =
     rw (shl-exact {a = 65536} 17 v 32 (search needs) (search needs)) (λ i. record { care = care-is v i; wanted = wanted-is v i })
 
 pub spi-test-spec : {M : Type 1} → statement M
-spi-test-spec = tie.close (tie.spec add-wanted add-wanted-2 cast-wanted shl-wanted add-wanted-3 add-care returns)
+spi-test-spec = tie.close (tie.spec cast-wanted shl-wanted add-wanted returns)

@@ -99,6 +99,10 @@ impl Controller for Library {
         )
     }
 
+    fn pulse(&mut self, vcpu: u64, number: u64) -> Given {
+        given(self.gic().pulse(GicVcpuId(vcpu), IntId(number)))
+    }
+
     fn irq_level(&mut self, vcpu: u64) -> Given {
         let level = self.gic().irq_level(GicVcpuId(vcpu));
         told(level.expect("an accepted call").into())
@@ -148,6 +152,10 @@ impl Controller for Plain {
 
     fn set_level(&mut self, vcpu: u64, number: u64, asserted: bool) -> Given {
         plain(self.gic.set_level(vcpu, number, asserted))
+    }
+
+    fn pulse(&mut self, vcpu: u64, number: u64) -> Given {
+        plain(self.gic.pulse(vcpu, number))
     }
 
     fn irq_level(&mut self, vcpu: u64) -> Given {
@@ -207,6 +215,10 @@ impl Controller for Oracle {
 
     fn set_level(&mut self, vcpu: u64, number: u64, asserted: bool) -> Given {
         self.call(Call::SetLevel(Input { vcpu, number }, asserted))
+    }
+
+    fn pulse(&mut self, vcpu: u64, number: u64) -> Given {
+        self.call(Call::Pulse(Input { vcpu, number }))
     }
 
     fn irq_level(&mut self, vcpu: u64) -> Given {

@@ -26,6 +26,7 @@ pub trait Controller {
     fn read_interface(&mut self, vcpu: u64, offset: u64) -> Given;
     fn write_interface(&mut self, vcpu: u64, offset: u64, value: u64) -> Given;
     fn set_level(&mut self, vcpu: u64, number: u64, asserted: bool) -> Given;
+    fn pulse(&mut self, vcpu: u64, number: u64) -> Given;
     fn irq_level(&mut self, vcpu: u64) -> Given;
 }
 

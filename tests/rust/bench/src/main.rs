@@ -10,23 +10,15 @@ use bench::{
 };
 use std::{env, num::NonZero, process::ExitCode};
 
-const SHAPES: [Shape; 2] = [
-    Shape {
-        count: 2,
-        limit: 1020,
-    },
-    Shape {
-        count: 2,
-        limit: 64,
-    },
-];
+const SHAPES: [Shape; 4] = [shape(2, 1020), shape(2, 64), shape(8, 1020), shape(8, 64)];
 /// Of what is saved and loaded.
-const MOVED: Shape = Shape {
-    count: 8,
-    limit: 1020,
-};
+const MOVED: Shape = shape(8, 1020);
 /// About how long a round of the plain Rust is. The others take as many turns.
 const NANOSECONDS: f64 = 30e6;
+
+const fn shape(count: u64, limit: u64) -> Shape {
+    Shape { count, limit }
+}
 
 fn main() -> ExitCode {
     let arguments: Vec<String> = env::args().skip(1).collect();

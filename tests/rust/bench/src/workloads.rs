@@ -28,7 +28,7 @@ pub struct Workload<C> {
     pub turn: fn(&mut C, Shape, u64, &mut Sum),
 }
 
-pub fn all<C: Controller>() -> [Workload<C>; 7] {
+pub fn all<C: Controller>() -> [Workload<C>; 8] {
     let workload = |name, calls, start, turn| Workload {
         name,
         calls,
@@ -48,6 +48,7 @@ pub fn all<C: Controller>() -> [Workload<C>; 7] {
         workload("line up, IAR, line down, EOIR", 4, boot, packet),
         workload("reads: ISENABLER, IPRIORITYR, TYPER", 3, boot, read),
         workload("levels of both lines, 2 SPIs ready", 2, few_ready, levels),
+        workload("edge SPI: pulse, IAR, EOIR", 3, boot_edge, pulse),
     ]
 }
 
@@ -65,6 +66,14 @@ pub fn boot<C: Controller>(gic: &mut C, shape: Shape) {
     }
     for first in (32..shape.limit).step_by(32) {
         gic.write_distributor(0, GICD_ISENABLER + first / 8, 4, 0xffff_ffff);
+    }
+}
+
+/// The same with every SPI edge.
+fn boot_edge<C: Controller>(gic: &mut C, shape: Shape) {
+    boot(gic, shape);
+    for first in (32..shape.limit).step_by(16) {
+        gic.write_distributor(0, GICD_ICFGR + first / 4, 4, 0xaaaa_aaaa);
     }
 }
 
@@ -123,8 +132,16 @@ fn read<C: Controller>(gic: &mut C, shape: Shape, turn: u64, sum: &mut Sum) {
     sum.note(gic.read_distributor(0, GICD_TYPER, 4));
 }
 
-/// One line is up, the other down.
+/// vCPU 0's line is up, vCPU 1's down.
 fn levels<C: Controller>(gic: &mut C, _: Shape, _: u64, sum: &mut Sum) {
     sum.note(gic.irq_level(0));
     sum.note(gic.irq_level(1));
+}
+
+/// A device pulses, the guest takes the interrupt and ends it.
+fn pulse<C: Controller>(gic: &mut C, shape: Shape, turn: u64, sum: &mut Sum) {
+    sum.note(gic.pulse(0, shape.spi(turn)));
+    let taken = gic.read_interface(0, GICC_IAR);
+    sum.note(taken);
+    sum.note(gic.write_interface(0, GICC_EOIR, taken.value.into()));
 }

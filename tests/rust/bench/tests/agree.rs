@@ -16,7 +16,7 @@ fn answers<C: Controller>(shape: Shape, turns: u64) -> Vec<Sum> {
 
 #[test]
 fn the_same_answers() {
-    for (count, limit) in [(2, 1020), (2, 64), (8, 200)] {
+    for (count, limit) in [(2, 1020), (2, 64), (8, 1020), (8, 64), (8, 200)] {
         let shape = Shape { count, limit };
         let ours = answers::<Library>(shape, 100);
         assert_eq!(ours, answers::<Plain>(shape, 100), "{shape:?}");

@@ -1,6 +1,12 @@
 //! Images: saved in the midst of histories, and of words with a bit changed; offered as they are, and changed in every way; and histories that
 //! go on with what was loaded.
-use crate::{Difference, Library, histories::Scenes, pair::Pair, request::Request, slots::places};
+use crate::{
+    Difference, Library,
+    histories::Scenes,
+    pair::Pair,
+    request::Request,
+    slots::{places, summary},
+};
 use model::edits::{self, Edit};
 use oracle::scripts::random::Random;
 
@@ -81,11 +87,16 @@ impl Images {
         words: &[u32],
     ) -> Result<(), Difference> {
         let (stacks, served) = (places(words, 0).1 as u64, served(words));
+        let summary: Vec<usize> = summary(words).collect();
         for _ in 0..40 {
             let mut changed = words.to_vec();
             for _ in 0..self.random.pick(&[1, 1, 1, 2]) {
                 if self.random.percent(20) && !served.is_empty() {
                     changed[self.random.pick(&served)] ^= 1 << self.random.below(18);
+                    continue;
+                }
+                if self.random.percent(10) && !summary.is_empty() {
+                    changed[self.random.pick(&summary)] ^= 1 << self.random.below(32);
                     continue;
                 }
                 let places = self.random.pick(&[stacks, stacks, words.len() as u64]);

@@ -3,6 +3,7 @@ use crate::{
     Difference, Library, images,
     pair::Pair,
     request::{Place, Request},
+    slots,
 };
 use oracle::{
     RegisterRegion::{self, CpuInterface, Distributor},
@@ -60,6 +61,7 @@ impl Shape {
         if random.percent(85) {
             self.tame_records(random, &mut words);
         }
+        self.tame_summary(random, &mut words);
         for vcpu in 0..self.count {
             self.tame_vcpu(random, &mut words, vcpu);
         }
@@ -113,8 +115,28 @@ impl Shape {
     fn records(self) -> impl Iterator<Item = (usize, usize)> {
         let private = (0..self.count)
             .flat_map(|v| (HEADER + VCPU * v + 20..HEADER + VCPU * (v + 1)).map(move |at| (at, v)));
-        let shared = HEADER + VCPU * self.count..self.stack(0);
+        let start = HEADER + VCPU * self.count;
+        let shared = start..start + self.limit - 32;
         private.chain(shared.map(move |at| (at, at % (self.count + 1))))
+    }
+
+    /// Bits as the records have them, with a few turned, or any at all; and from the limit up none or any.
+    fn tame_summary(self, random: &mut Random, words: &mut [u32]) {
+        (words[0], words[1]) = (self.count as u32, self.limit as u32);
+        let kind = random.below(10);
+        if kind < 8 {
+            words.copy_from_slice(&slots::exact(words));
+        }
+        if (4..8).contains(&kind) && self.limit > 32 {
+            for _ in 0..1 + random.below(4) {
+                let number = 32 + random.below(self.limit as u64 - 32) as usize;
+                let turned = !slots::has_bit(words, number);
+                slots::put_bit(words, number, turned);
+            }
+        }
+        if let (Some((at, bits)), true) = (slots::past(words), random.percent(40)) {
+            words[at] &= !bits;
+        }
     }
 
     /// Mostly on, with a high mask and a stack that a state may have; entries often of interrupts that there are, odd ones as often as even.

@@ -81,16 +81,19 @@ impl<'a, L: Library> Pair<'a, L> {
     /// Makes the call of both; the oracle's answer, if all is equal.
     pub fn call(&mut self, request: &Request) -> Result<Answer, Difference> {
         self.requests.push(request.clone());
-        // What is cleared is known before the call, and whether it is accepted after it.
-        let clears = request.clears().map(|_| self.words().to_vec());
+        // What a call meets is known before it, and whether it is accepted after it. Bits are false in lent words alone.
+        let meets = request.clears().is_some() || !self.canonical;
+        let before = meets.then(|| self.words().to_vec());
         let answer = match request {
             Request::Save { room } => self.save(request, *room)?,
             Request::Load(image) => self.load(request, image)?,
             _ => self.call_oracle(request)?,
         };
         self.tally.note(request, &answer, self.memory.lent());
-        if let (Some(before), 0) = (clears, answer.refusal) {
+        if let (Some(before), 0) = (before, answer.refusal) {
             self.tally.note_clears(request, &before);
+            let after = self.memory.lent();
+            self.tally.note_bits(request, &answer, &before, after);
         }
         self.ask_after(request, &answer)?;
         Ok(answer)

@@ -3,7 +3,7 @@ use oracle::{
     AccessWidth,
     RegisterRegion::{self, CpuInterface, Distributor},
     machine::{Access, Answer, Call, Input},
-    register::{GICD_ICPENDR, GICD_ISACTIVER},
+    register::{GICC_AHPPIR, GICC_AIAR, GICC_HPPIR, GICC_IAR, GICD_ICPENDR, GICD_ISACTIVER},
 };
 use std::{fmt, rc::Rc};
 
@@ -46,6 +46,19 @@ impl Request {
             return None;
         };
         self.call()?.acknowledged(answer).map(|_| at.vcpu)
+    }
+
+    /// The vCPU whose best this takes or shows, if it is a read that does.
+    pub fn selects(&self) -> Option<u64> {
+        match self {
+            Self::Read(at)
+                if at.region == CpuInterface
+                    && [GICC_IAR, GICC_AIAR, GICC_HPPIR, GICC_AHPPIR].contains(&at.offset) =>
+            {
+                Some(at.vcpu)
+            }
+            _ => None,
+        }
     }
 
     /// Whose pending bits this clears where it is accepted, if it writes ICPENDR: its vCPU, and the numbers, which may be above the limit.

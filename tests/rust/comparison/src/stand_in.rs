@@ -7,7 +7,7 @@ use crate::{
     report::Case,
     request::{Request, packed},
     run,
-    slots::places,
+    slots::{exact, places},
     tally::Tally,
     wrong::{self, Spoil},
 };
@@ -147,6 +147,9 @@ fn what_is_equal_passes() {
             assert!(tally.points.iter().all(|count| *count > 50), "{tally}");
             assert!(tally.met.iter().all(|count| *count > 10), "{tally}");
         }
+        if *name == "lent words" {
+            assert!(tally.bits.iter().all(|count| *count > 20), "{tally}");
+        }
     }
     let mut all = Tally::default();
     tallies.into_iter().for_each(|(_, tally)| all += tally);
@@ -200,7 +203,8 @@ fn a_wrong_answer_is_found() {
 
 #[test]
 fn a_wrong_line_is_found() {
-    // Down; up while the Distributor is off; up while the stack is full; one vCPU's down; refused by 3 for 6; a stranger's not refused.
+    // Down; up while the Distributor is off; up while the stack is full; one vCPU's down; refused by 3 for 6; a stranger's not refused; by the
+    // records, where a bit is false.
     found_out(5, |question, _, given| {
         if matches!(question, Question::IrqLevel { .. }) {
             *given &= !1;
@@ -232,6 +236,11 @@ fn a_wrong_line_is_found() {
             && *given >> 56 == 3
         {
             *given ^= 3 << 56;
+        }
+    });
+    found_out(1, |question, words, given| {
+        if matches!(question, Question::IrqLevel { .. }) && *given >> 56 == 0 {
+            *given = packed(&question.expected(&Machine::lent(&exact(words))));
         }
     });
 }
@@ -385,11 +394,16 @@ fn a_wrong_save_is_found() {
         given
     });
     found_moving(1, |words, buffer, request| {
-        let sgi = words.get(HEADER + 20).copied();
+        let pends = |sgi: usize| {
+            let sources = words[HEADER + 4 + sgi] & 0xff;
+            sources == 0 && words[HEADER + 20 + sgi] & 0xff == 0x43
+        };
+        let sourceless = words.len() > HEADER + VCPU && (0..16).any(pends);
         let given = plain(words, buffer, request);
-        match sgi {
-            Some(word) if given >> 56 == 9 && word & 0xff == 0x43 => 1023 << 32,
-            _ => given,
+        if given >> 56 == 9 && sourceless {
+            1023 << 32
+        } else {
+            given
         }
     });
     found_moving(3, |words, buffer, request| {

@@ -21,6 +21,14 @@ const MET: [(&str, u32, u32); 5] = [
     ("level with the line low", PENDING | LINE | EDGE, PENDING),
 ];
 
+/// What calls may meet of the summary of the ready, where its bits are false or from the limit up.
+const BITS: [&str; 4] = [
+    "given though not ready",
+    "ready and passed over",
+    "set from the limit up in a selection",
+    "false and made right",
+];
+
 #[derive(Clone, Copy, Debug, Default)]
 pub struct Tally {
     pub calls: u64,
@@ -29,6 +37,8 @@ pub struct Tally {
     pub points: [u64; 8],
     /// Records that writes of ICPENDR met, by their kind.
     pub met: [u64; MET.len()],
+    /// What calls met of the summary, by its kind.
+    pub bits: [u64; BITS.len()],
     pub retirements: u64,
     pub wakes: u64,
     /// Answers by their refusal, 0 for none.
@@ -75,6 +85,39 @@ impl Tally {
         }
     }
 
+    /// What an accepted call of a controller met of the summary: the words before it, and after it.
+    pub fn note_bits(&mut self, request: &Request, answer: &Answer, before: &[u32], after: &[u32]) {
+        if matches!(request, Request::Setup { .. } | Request::Load(_)) {
+            return;
+        }
+        let [unready, passed, past, made] = &mut self.bits;
+        let exists = |vcpu: &u64| *vcpu < before[0].into();
+        if let Some(vcpu) = request.selects().filter(exists) {
+            let chosen = answer.value as u32 != SPURIOUS;
+            let given = request
+                .acknowledged_by(answer)
+                .map(|_| answer.value as usize);
+            let record = |number| before[slots::record(before, vcpu, number)];
+            let is_unready = |number: usize| number >= 32 && !slots::is_ready(record(number));
+            let is_passed = |number: usize| number >= 32 && !slots::has_bit(before, number);
+            let best = slots::best_by_records(before, vcpu);
+            *unready += u64::from(given.map(|it| it % 1024).is_some_and(is_unready));
+            *passed += u64::from(best.is_some_and(is_passed));
+            *past += u64::from(chosen && slots::has_past(before));
+        }
+        for (number, at) in (32..).zip(slots::spis(before)) {
+            let was = slots::has_bit(before, number);
+            let turned = slots::has_bit(after, number) != was;
+            *made += u64::from(turned && was != slots::is_ready(before[at]));
+        }
+    }
+
+    /// The first of these that no call met, if there is one.
+    pub fn missing_bit(&self) -> Option<&'static str> {
+        let mut kinds = BITS.iter().zip(self.bits);
+        kinds.find(|(_, count)| *count == 0).map(|(kind, _)| *kind)
+    }
+
     /// The first kind of records that no write of ICPENDR met, if there is one.
     pub fn missing_kind(&self) -> Option<&'static str> {
         let mut kinds = MET.iter().zip(self.met);
@@ -107,6 +150,9 @@ impl AddAssign for Tally {
         for (kind, count) in self.met.iter_mut().zip(other.met) {
             *kind += count;
         }
+        for (kind, count) in self.bits.iter_mut().zip(other.bits) {
+            *kind += count;
+        }
         self.retirements += other.retirements;
         self.wakes += other.wakes;
         for (number, count) in self.refusals.iter_mut().zip(other.refusals) {
@@ -129,6 +175,7 @@ impl fmt::Display for Tally {
             acknowledges,
             points,
             met,
+            bits,
             retirements,
             wakes,
             refusals,
@@ -149,6 +196,10 @@ impl fmt::Display for Tally {
         }
         write!(f, "; ICPENDR met")?;
         for ((kind, ..), count) in MET.iter().zip(met) {
+            write!(f, " {kind}: {count}")?;
+        }
+        write!(f, "; bits of the summary")?;
+        for (kind, count) in BITS.iter().zip(bits) {
             write!(f, " {kind}: {count}")?;
         }
         write!(f, "; refusals")?;

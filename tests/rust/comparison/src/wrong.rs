@@ -1,12 +1,13 @@
-//! Controllers that have the rule of request Two or of request Four wrong, each in a way in which it may be read or written. A comparison has
-//! to find every one.
+//! Controllers that have the rule of request Two, Four or Five wrong, each in a way in which it may be read or written. A comparison has to
+//! find every one.
 mod binary_point;
 mod held_line;
+mod summary;
 
-use crate::request::{Place, Request};
+use crate::request::{Place, Request, packed};
 use oracle::{
     RegisterRegion::CpuInterface,
-    machine::SPURIOUS,
+    machine::{Machine, SPURIOUS},
     register::{GICC_AIAR, GICC_IAR},
 };
 
@@ -23,6 +24,7 @@ pub struct Controller {
 pub fn controllers() -> impl Iterator<Item = Controller> {
     let two = binary_point::CONTROLLERS.into_iter();
     two.chain(held_line::CONTROLLERS)
+        .chain(summary::CONTROLLERS)
 }
 
 const fn wrong(what: &'static str, at_most: usize, spoil: Spoil) -> Controller {
@@ -50,4 +52,13 @@ fn taken(request: &Request, given: u64) -> Option<(u64, usize)> {
     let at = read(request).filter(|at| [GICC_IAR, GICC_AIAR].contains(&at.offset))?;
     let number = given as u32;
     (is_accepted(given) && number != SPURIOUS).then_some((at.vcpu, number as usize % 1024))
+}
+
+/// Answers as a sound controller would, had its words been changed so before the call.
+fn as_if(request: &Request, given: &mut u64, mut words: Vec<u32>, change: impl FnOnce(&mut [u32])) {
+    change(&mut words);
+    if let Some(call) = request.call() {
+        let answer = Machine::lent(&words).call(&call);
+        *given = packed(&answer.expect("a sound oracle"));
+    }
 }

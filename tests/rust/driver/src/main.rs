@@ -1,7 +1,8 @@
 //! `driver [SEED [CALLS]]` compares libvgic.a with the oracle, and its images with the second writing: after every call the answer and every
 //! word of the state, every byte of an image, and what the library tells of IRQ lines and interrupts. It ends with status 1 and the calls that
 //! lead there where they differ, and with status 1 where the histories or the lent words acknowledge nothing at one of the eight binary points,
-//! or where no write of ICPENDR meets one of the kinds of records that it clears or leaves.
+//! or where no write of ICPENDR meets one of the kinds of records that it clears or leaves, or where no call of lent words meets one of the
+//! kinds of bits of the summary that are false or from the limit up.
 use comparison::{report::Case, run, tally::Tally};
 use driver::Vgic;
 use std::{env, process::ExitCode};
@@ -53,7 +54,7 @@ fn print(tallies: &[(&str, Tally)]) {
 }
 
 /// A full stack comes to each binary point by design; histories and lent words have to come by themselves to each of them, and to each kind of
-/// record that may have pending cleared. That takes some ten thousand calls.
+/// record that may have pending cleared; lent words to each kind of bits that no history has. That takes some ten thousand calls.
 fn everything_is_met(tallies: &[(&str, Tally)]) -> ExitCode {
     let mut code = ExitCode::SUCCESS;
     for part in ["histories", "lent words"] {
@@ -66,6 +67,10 @@ fn everything_is_met(tallies: &[(&str, Tally)]) -> ExitCode {
         }
         if let Some(kind) = tally.missing_kind() {
             println!("driver: in the {part} ICPENDR meets nothing that is {kind}");
+            code = ExitCode::FAILURE;
+        }
+        if let (Some(kind), "lent words") = (tally.missing_bit(), part) {
+            println!("driver: in the {part} no bit of the summary is {kind}");
             code = ExitCode::FAILURE;
         }
     }

@@ -69,7 +69,7 @@ impl Library for Silent {
     }
 }
 
-/// The library, with request Two's rule or request Four's taken wrong.
+/// The library, with the rule of request Two, Four or Five taken wrong.
 struct Wrong(Spoil);
 
 impl Library for Wrong {

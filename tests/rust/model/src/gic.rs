@@ -4,7 +4,7 @@ mod distributor;
 #[cfg(test)]
 mod tests;
 
-use crate::record::Record;
+use crate::{record::Record, words::summary_size};
 
 pub const SPURIOUS: u64 = 1023; // also "nothing retired"
 const IDLE: u8 = 255; // running priority of an empty stack
@@ -44,6 +44,11 @@ pub enum Outlook {
     Number,
 }
 
+/// Which word of the summary has the bit of an SPI, and the bit.
+fn summary_place(id: u64) -> (usize, u32) {
+    ((id / 32 - 1) as usize, 1 << (id % 32))
+}
+
 #[derive(Clone, Copy)]
 pub struct Best {
     pub priority: u8,
@@ -60,6 +65,7 @@ pub struct Gic {
     pub pmr: Vec<u64>,
     pub bpr: Vec<u64>,
     pub stack: Vec<Vec<(u64, u8)>>, // number and group priority, newest last
+    pub summary: Vec<u32>,          // request Five: a bit for each SPI, from bit 0 of word 0 on
 }
 
 impl Gic {
@@ -83,6 +89,7 @@ impl Gic {
             pmr: vec![0; count as usize],
             bpr: vec![0; count as usize],
             stack: vec![Vec::new(); count as usize],
+            summary: vec![0; summary_size(limit)],
         }
     }
 
@@ -99,6 +106,27 @@ impl Gic {
         (v * 16 + id) as usize
     }
 
+    /// Whether the summary says that an SPI is ready. In lent words it may be false.
+    pub(crate) fn summary_bit(&self, id: u64) -> bool {
+        let (word, bit) = summary_place(id);
+        self.summary[word] & bit != 0
+    }
+
+    /// The one way in which a call changes a record. "Each transition called on a record sets its bit anew", also where the record is then
+    /// as it was; no other bit changes. Private numbers have none.
+    pub(crate) fn change(&mut self, v: u64, id: u64, by: impl FnOnce(&mut Record)) {
+        let slot = self.slot(v, id);
+        by(&mut self.records[slot]);
+        if id >= 32 {
+            let (word, bit) = summary_place(id);
+            if self.records[slot].is_ready() {
+                self.summary[word] |= bit;
+            } else {
+                self.summary[word] &= !bit;
+            }
+        }
+    }
+
     /// "PMR and the choice of the best still use all 8 bits."
     fn better(&self, v: u64, r: &Record, best: Option<Best>) -> bool {
         if u64::from(r.priority()) >= self.pmr[v as usize] {
@@ -111,13 +139,15 @@ impl Gic {
     }
 
     /// The best candidate of every vCPU. Numbers rise, so the first of equal
-    /// priorities stays.
+    /// priorities stays. An SPI is taken for ready by its bit alone: "on a lent
+    /// state whose bits are false, answers follow the bits". Its mask and
+    /// priority are the record's.
     fn best_of_each(&self) -> [Option<Best>; 8] {
         let mut best: [Option<Best>; 8] = [None; 8];
         for v in 0..self.count {
             for id in 0..32 {
                 let r = &self.records[self.slot(v, id)];
-                if r.offered() && self.better(v, r, best[v as usize]) {
+                if r.is_ready() && self.better(v, r, best[v as usize]) {
                     best[v as usize] = Some(Best {
                         priority: r.priority(),
                         id,
@@ -126,10 +156,10 @@ impl Gic {
             }
         }
         for id in 32..self.limit {
-            let r = &self.records[self.slot(0, id)];
-            if !r.offered() {
+            if !self.summary_bit(id) {
                 continue;
             }
+            let r = &self.records[self.slot(0, id)];
             let mask = r.mask();
             for v in 0..self.count {
                 let named = (mask >> v) & 1 == 1;
@@ -213,10 +243,9 @@ impl Gic {
             return refused(3);
         }
         let before = self.outlooks();
-        let slot = self.slot(v, id);
         match level {
-            Some(high) => self.records[slot].file.set_level(high),
-            None => self.records[slot].file.pulse(),
+            Some(high) => self.change(v, id, |r| r.file.set_level(high)),
+            None => self.change(v, id, |r| r.file.pulse()),
         }
         let mut answer = gives(0);
         answer.wake = self.woken(before);

@@ -134,8 +134,8 @@ impl Gic {
             from.private(&mut gic, slot / 32, slot % 32)?;
         }
         for id in 32..limit {
-            let slot = gic.slot(0, id);
-            gic.records[slot] = from.spi(id)?;
+            let record = from.spi(id)?;
+            gic.change(0, id, |r| *r = record); // "images don't carry the bits; loading makes them"
         }
         (from.rest.is_empty() && gic.is_lawful()).then_some(gic)
     }

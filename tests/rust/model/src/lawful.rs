@@ -1,4 +1,4 @@
-//! Request One's lawful state: demand 3's properties, which request Two adds to, and those that One adds, each beside its sentence.
+//! Request One's lawful state: demand 3's properties, which requests Two and Five add to, and those that One adds, each beside its sentence.
 use crate::{gic::Gic, record::Record};
 
 impl Gic {
@@ -41,11 +41,13 @@ impl Gic {
         record.parts().cpu_target_mask.is_none() && own && lawful_record(record)
     }
 
-    /// "Masks name existing vCPUs"; one in flight is "charged to one existing vCPU".
+    /// "Masks name existing vCPUs"; one in flight is "charged to one existing vCPU"; its bit is "set exactly when it is enabled, pending and
+    /// not active". Only bits of SPIs below the limit are asked.
     fn lawful_spi(&self, id: u64) -> bool {
         let record = &self.records[self.slot(0, id)];
         let exists = record.owner.is_none_or(|owner| owner < self.count);
-        u64::from(record.mask()) < 1 << self.count && exists && lawful_record(record)
+        let exact = self.summary_bit(id) == record.is_ready();
+        u64::from(record.mask()) < 1 << self.count && exists && exact && lawful_record(record)
     }
 }
 

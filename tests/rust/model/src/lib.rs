@@ -4,7 +4,8 @@
 //! The record's transitions are interrupt.rs's own, as document 01 asks, but for `set_pending`, which is request Four's: see `record`.
 //!
 //! Request One is written here a second time too: `lawful` and `image`, over the lent words of docs/STATE.md (`words`); `edits` has
-//! changes that an image does not bear. So is request Two, the binary point: `gic` groups by it, and `lawful` has its even entries.
+//! changes that an image does not bear. So is request Two, the binary point: `gic` groups by it, and `lawful` has its even entries. And so is
+//! request Five, the summary of the ready: `gic` has its words, chooses by them and keeps them, and `lawful` says when they are exact.
 pub mod edits;
 pub mod gic;
 pub mod image;

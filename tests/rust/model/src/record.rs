@@ -55,7 +55,8 @@ impl Record {
         self.parts().inflight
     }
 
-    pub(crate) fn offered(&self) -> bool {
+    /// What an SPI's bit of the summary has to say: "enabled, pending and not active".
+    pub(crate) fn is_ready(&self) -> bool {
         self.file.enabled() && self.file.pending() && !self.file.active()
     }
 

@@ -16,7 +16,12 @@ pub fn in_range(count: u64, limit: u64) -> bool {
 
 /// How many words a controller in range takes.
 pub fn size(count: u64, limit: u64) -> usize {
-    HEADER + (VCPU + STACK) * count as usize + limit as usize - 32
+    HEADER + (VCPU + STACK) * count as usize + limit as usize - 32 + summary_size(limit)
+}
+
+/// Request Five: "one bit per SPI", 32 to a word.
+pub fn summary_size(limit: u64) -> usize {
+    (limit as usize - 1) / 32
 }
 
 /// None where refusal 6 is given.
@@ -36,6 +41,9 @@ pub fn read(words: &[u32]) -> Option<Gic> {
         let slot = gic.slot(0, id);
         gic.records[slot] = record(id, words[spis + id as usize - 32]);
     }
+    // As they lie, false bits and bits from the limit up too.
+    let summary = &words[spis + limit as usize - 32..][..summary_size(limit)];
+    gic.summary.copy_from_slice(summary);
     Some(gic)
 }
 
@@ -81,7 +89,7 @@ fn record(id: u64, word: u32) -> Record {
     Record::make(&parts, u64::from(byte(24)).checked_sub(1))
 }
 
-/// With no bit that counts for nothing, and 0 past a stack's depth.
+/// With no bit that counts for nothing, and 0 past a stack's depth; but the summary as it is, since its bits from the limit up stay.
 pub fn write(gic: &Gic) -> Vec<u32> {
     let mut words = vec![gic.count as u32, gic.limit as u32, gic.on.into()];
     for v in 0..gic.count as usize {
@@ -92,6 +100,7 @@ pub fn write(gic: &Gic) -> Vec<u32> {
     }
     let spis = 32 * gic.count as usize;
     words.extend(gic.records[spis..].iter().map(word));
+    words.extend(&gic.summary);
     for stack in &gic.stack {
         let end = words.len() + STACK;
         let entry = |&(id, priority): &(u64, u8)| id as u32 + 1024 * u32::from(priority);

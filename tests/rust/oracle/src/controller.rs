@@ -111,16 +111,14 @@ impl GicV3Controller {
     /// Device input (document 01's design): sets the line of a PPI of this vCPU, or of an SPI.
     pub(crate) fn set_level(&self, vcpu: GicVcpuId, number: u64, asserted: bool) -> VgicResult {
         let input = self.input(number)?;
-        let mut state = self.state();
-        state.present_mut(vcpu, input)?.record.set_level(asserted);
-        Ok(())
+        self.state()
+            .transit(vcpu, input, |it| it.record.set_level(asserted))
     }
 
     /// Device input: pulses a PPI of this vCPU, or an SPI.
     pub(crate) fn pulse(&self, vcpu: GicVcpuId, number: u64) -> VgicResult {
         let input = self.input(number)?;
-        self.state().present_mut(vcpu, input)?.record.pulse();
-        Ok(())
+        self.state().transit(vcpu, input, |it| it.record.pulse())
     }
 
     fn input(&self, number: u64) -> VgicResult<IntId> {

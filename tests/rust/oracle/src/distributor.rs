@@ -1,14 +1,17 @@
-//! The Distributor's own state: its switch and the SPIs.
+//! The Distributor's own state: its switch, the SPIs, and beside them the summary of the ready (document 02, Five).
 use crate::{
     InterruptRecord, SpiId, VgicError, VgicResult,
     registers::{Bank, Interrupt, Interrupts},
+    words::summary_words,
 };
 
 #[derive(Clone, PartialEq)]
 pub(crate) struct DistributorState {
     enabled: bool,
-    /// The SPIs, from number 32 to the limit.
+    /// The SPIs, from number 32 to the limit. A call changes one by `transit` alone.
     pub spis: Interrupts,
+    /// A bit for each SPI, 32 to a word; those of the last word from the limit up are nobody's, and stay. In lent words any may be false.
+    pub summary: Vec<u32>,
 }
 
 impl DistributorState {
@@ -16,6 +19,7 @@ impl DistributorState {
         Self {
             enabled: false,
             spis: Interrupts::new(32..spi_limit),
+            summary: vec![0; summary_words(spi_limit as usize)],
         }
     }
 
@@ -39,11 +43,16 @@ impl DistributorState {
     }
 
     pub fn set_cpu_target_mask(&mut self, spi: SpiId, mask: u8) -> VgicResult {
-        let it = self
-            .find_mut(spi.raw())
-            .ok_or(VgicError::NoInterrupt(spi.raw()))?;
-        it.record.set_cpu_target_mask(mask);
-        Ok(())
+        self.transit(spi.raw(), |it| it.record.set_cpu_target_mask(mask))
+            .ok_or(VgicError::NoInterrupt(spi.raw()))
+    }
+
+    /// The SPIs whose bits are set, whatever their records say.
+    pub fn summarized(&self) -> impl Iterator<Item = &Interrupt> {
+        let bits = |index: usize| self.summary[index / 32] >> (index % 32);
+        let all = self.spis.iter().enumerate();
+        all.filter(move |(index, _)| bits(*index) & 1 == 1)
+            .map(|(_, it)| it)
     }
 }
 
@@ -52,7 +61,21 @@ impl Bank for DistributorState {
         self.spis.get(number.checked_sub(32)? as usize)
     }
 
-    fn find_mut(&mut self, number: u32) -> Option<&mut Interrupt> {
-        self.spis.get_mut(number.checked_sub(32)? as usize)
+    /// Sets the SPI's own bit anew, and no other.
+    fn transit<T>(
+        &mut self,
+        number: u32,
+        transitions: impl FnOnce(&mut Interrupt) -> T,
+    ) -> Option<T> {
+        let index = number.checked_sub(32)? as usize;
+        let it = self.spis.get_mut(index)?;
+        let outcome = transitions(it);
+        let (word, bit) = (&mut self.summary[index / 32], 1 << (index % 32));
+        *word = if it.ready() {
+            *word | bit
+        } else {
+            *word & !bit
+        };
+        Some(outcome)
     }
 }

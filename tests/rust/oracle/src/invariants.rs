@@ -1,7 +1,8 @@
-//! Demand 3 of the mission, on a state as it stands, and with it the rest of request One's lawful state, which makes it last.
+//! Demand 3 of the mission, on a state as it stands, with what request Five adds to it; and with it the rest of request One's lawful state,
+//! which makes it last.
 use crate::{
     GicV3Controller, GicVcpuId, Priority, SgiId, TriggerMode, access,
-    redistributor::RedistributorState, registers::Interrupt,
+    distributor::DistributorState, redistributor::RedistributorState, registers::Interrupt,
 };
 use types::Parts;
 
@@ -24,6 +25,16 @@ pub(crate) fn broken(gic: &GicV3Controller) -> Option<String> {
         .iter()
         .find_map(broken_vcpu)
         .or_else(|| broken_record(&state.distributor.spis, exists, shared))
+        .or_else(|| broken_summary(&state.distributor))
+}
+
+/// The bit of an SPI is set exactly when it is enabled, pending and not active.
+fn broken_summary(distributor: &DistributorState) -> Option<String> {
+    let ready = distributor.spis.iter().filter(|it| it.ready());
+    let exact = ready
+        .map(|it| it.record.intid())
+        .eq(distributor.summarized().map(|it| it.record.intid()));
+    (!exact).then(|| format!("summary {:x?}", distributor.summary))
 }
 
 /// The priorities under service fall strictly, lie below 255 and are even, so that there are at most 128; the numbers lie below the limit.

@@ -38,7 +38,7 @@ impl RedistributorState {
     }
 
     pub fn private_mut(&mut self, intid: IntId) -> VgicResult<&mut InterruptRecord> {
-        let it = self.find_mut(intid.raw());
+        let it = self.private.get_mut(intid.raw() as usize);
         it.map(|it| &mut it.record)
             .ok_or(VgicError::NoInterrupt(intid.raw()))
     }
@@ -113,8 +113,12 @@ impl Bank for RedistributorState {
         self.private.get(number as usize)
     }
 
-    fn find_mut(&mut self, number: u32) -> Option<&mut Interrupt> {
-        self.private.get_mut(number as usize)
+    fn transit<T>(
+        &mut self,
+        number: u32,
+        transitions: impl FnOnce(&mut Interrupt) -> T,
+    ) -> Option<T> {
+        self.private.get_mut(number as usize).map(transitions)
     }
 }
 
@@ -152,10 +156,11 @@ impl<'a> Redistributor<'a> {
             let mask = it.record.cpu_target_mask().unwrap_or(0);
             mask & 1 << self.own.vcpu.raw() != 0
         };
-        let spis = self.distributor.spis.iter().filter(named);
-        let seen = self.own.private.iter().chain(spis);
+        let private = self.own.private.iter().filter(|it| it.ready());
+        // DEPARTURE, here in the stand-in: document 02 (Five), an SPI is a candidate by its bit, and not by its record as in document 01.
+        let spis = self.distributor.summarized().filter(named);
         let mut best: Option<(IntId, Priority)> = None;
-        for it in seen.filter(|it| it.offered()) {
+        for it in private.chain(spis) {
             let intid = it.record.intid();
             let priority = match intid {
                 IntId::Spi(spi) => spi_priority(spi)?,

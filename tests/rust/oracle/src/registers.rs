@@ -36,8 +36,8 @@ impl Interrupt {
         matches!(self.record.intid(), IntId::Sgi(_))
     }
 
-    /// Enabled, pending, not active; the mask is its caller's to test.
-    pub fn offered(&self) -> bool {
+    /// Enabled, pending, not active; the mask is its caller's to test. An SPI has a bit that says this (document 02, Five).
+    pub fn ready(&self) -> bool {
         self.record.deliverable() && !self.record.active()
     }
 }
@@ -83,7 +83,12 @@ impl PartialEq for Interrupts {
 /// Interrupts by their number: the Distributor's SPIs, or a vCPU's own.
 pub(crate) trait Bank {
     fn find(&self, number: u32) -> Option<&Interrupt>;
-    fn find_mut(&mut self, number: u32) -> Option<&mut Interrupt>;
+    /// Calls transitions of an interrupt that is in the bank, and stores what they leave, also where that is what was there.
+    fn transit<T>(
+        &mut self,
+        number: u32,
+        transitions: impl FnOnce(&mut Interrupt) -> T,
+    ) -> Option<T>;
 }
 
 /// Numbers that are not in the bank read 0.
@@ -124,18 +129,18 @@ pub(crate) fn write(
             allow(width == AccessWidth::Dword)?;
             for bit in 0..32 {
                 let number = first + bit / bits_each(register);
-                if let Some(it) = bank.find_mut(number) {
-                    write_bit(register, bit, it, value >> bit & 1 == 1);
+                let it = bank.find(number);
+                let called = it.and_then(|it| called_by(register, bit, it, value >> bit & 1 == 1));
+                if let Some(transitions) = called {
+                    bank.transit(number, transitions);
                 }
             }
         }
         Place::Priority(first) => {
             allow(width != AccessWidth::Qword)?;
             for byte in 0..width.size() as u32 {
-                if let Some(it) = bank.find_mut(first + byte) {
-                    it.record
-                        .set_priority(Priority((value >> (8 * byte)) as u8));
-                }
+                let priority = Priority((value >> (8 * byte)) as u8);
+                bank.transit(first + byte, |it| it.record.set_priority(priority));
             }
         }
         Place::Other => {}
@@ -166,28 +171,37 @@ fn read_bit(register: BitRegister, bit: u32, record: &InterruptRecord) -> bool {
     }
 }
 
-fn write_bit(register: BitRegister, bit: u32, it: &mut Interrupt, set: bool) {
+/// The transitions that a bit of a bit register calls; none where it does nothing, and then nothing is stored.
+fn called_by(
+    register: BitRegister,
+    bit: u32,
+    it: &Interrupt,
+    set: bool,
+) -> Option<fn(&mut Interrupt)> {
     use BitRegister::*;
-    match register {
-        Icfgr if bit % 2 == 1 && !it.is_sgi() => it.record.set_trigger(if set {
-            TriggerMode::Edge
-        } else {
-            TriggerMode::Level
-        }),
-        Igroupr | Icfgr => {}
-        _ if !set => {}
-        Isenabler => it.record.set_enabled(true),
-        Icenabler => it.record.set_enabled(false),
-        Ispendr | Icpendr if it.is_sgi() => {}
-        Ispendr => it.record.set_pending(true),
-        Icpendr => it.record.set_pending(false),
-        Isactiver => it.record.set_active(true),
-        Icactiver => {
+    let transitions: fn(&mut Interrupt) = match register {
+        Icfgr if bit % 2 == 1 && !it.is_sgi() => {
+            if set {
+                |it| it.record.set_trigger(TriggerMode::Edge)
+            } else {
+                |it| it.record.set_trigger(TriggerMode::Level)
+            }
+        }
+        Igroupr | Icfgr => return None,
+        _ if !set => return None,
+        Isenabler => |it| it.record.set_enabled(true),
+        Icenabler => |it| it.record.set_enabled(false),
+        Ispendr | Icpendr if it.is_sgi() => return None,
+        Ispendr => |it| it.record.set_pending(true),
+        Icpendr => |it| it.record.set_pending(false),
+        Isactiver => |it| it.record.set_active(true),
+        Icactiver => |it| {
             it.record.set_active(false);
             if it.inflight() {
                 it.record.cancel_inflight();
                 it.owner = None;
             }
-        }
-    }
+        },
+    };
+    Some(transitions)
 }

@@ -21,9 +21,14 @@ pub const HEADER: usize = 3;
 /// The entries that a stack has room for.
 pub const STACK: usize = 128;
 
+/// How many words the summary of the ready takes: a bit for each SPI.
+pub const fn summary_words(limit: usize) -> usize {
+    (limit - 1) / 32
+}
+
 /// How many words a state takes.
 pub const fn size(count: usize, limit: usize) -> usize {
-    HEADER + VCPU * count + (limit - 32) + STACK * count
+    HEADER + VCPU * count + (limit - 32) + summary_words(limit) + STACK * count
 }
 
 /// Whether a controller may have this count and limit.
@@ -44,6 +49,7 @@ pub(crate) fn write(state: &State, words: &mut Vec<u32>) {
         words.extend(own.private.iter().map(record_word));
     }
     words.extend(spis.iter().map(record_word));
+    words.extend(&state.distributor.summary);
     for (_, own) in vcpus {
         let (start, served) = (words.len(), own.cpu_interface().active());
         words.extend(
@@ -107,8 +113,10 @@ pub(crate) fn read(words: &[u32]) -> Option<GicV3Controller> {
 fn read_into(state: &mut State, words: &[u32]) -> Option<()> {
     state.distributor.set_enabled(words[2] & 1 != 0);
     let (vcpus, rest) = words[HEADER..].split_at(VCPU * state.redistributors.len());
-    let (spis, stacks) = rest.split_at(state.distributor.spis.len());
+    let (spis, rest) = rest.split_at(state.distributor.spis.len());
+    let (summary, stacks) = rest.split_at(state.distributor.summary.len());
     read_records(&mut state.distributor.spis, spis);
+    state.distributor.summary.copy_from_slice(summary);
     let own_words = vcpus.chunks(VCPU).zip(stacks.chunks(STACK));
     for ((_, own), (values, stack)) in state.redistributors.iter_mut().zip(own_words) {
         read_vcpu(own, values, stack)?;

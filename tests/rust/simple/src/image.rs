@@ -8,6 +8,7 @@ const HEADER: usize = 3;
 const VCPU: usize = 52;
 const STACK: usize = 128;
 
+const ENABLED: u32 = 0x01;
 const PENDING: u32 = 0x02;
 const ACTIVE: u32 = 0x04;
 const INFLIGHT: u32 = 0x08;
@@ -40,8 +41,13 @@ impl Shape {
         HEADER + VCPU * self.count
     }
 
-    fn stacks(self) -> usize {
+    /// The bits of the SPIs that are ready, 32 to a word.
+    fn summary(self) -> usize {
         self.spis() + self.limit - 32
+    }
+
+    fn stacks(self) -> usize {
+        self.summary() + (self.limit - 1) / 32
     }
 
     fn size(self) -> usize {
@@ -95,6 +101,10 @@ pub fn load(words: &mut [u32], image: &[u8]) -> Result<(), Refusal> {
     let words = words.get_mut(..shape.size()).ok_or(Refusal::ShortState)?;
     words[shape.stacks()..].fill(0);
     walk(image, |place, word| words[place] = word);
+    let (records, rest) = words[shape.spis()..].split_at_mut(shape.limit - 32);
+    for (records, bits) in records.chunks(32).zip(rest) {
+        *bits = ready(records);
+    }
     Ok(())
 }
 
@@ -122,7 +132,14 @@ impl<'a> State<'a> {
     }
 
     fn spis(&self) -> &'a [u32] {
-        &self.words[self.shape.spis()..self.shape.stacks()]
+        &self.words[self.shape.spis()..self.shape.summary()]
+    }
+
+    /// The bit of each SPI is as its record has it; those from the limit up are nobody's.
+    fn is_exact(&self) -> bool {
+        let summary = &self.words[self.shape.summary()..self.shape.stacks()];
+        let mut words = self.spis().chunks(32).zip(summary);
+        words.all(|(records, bits)| (bits ^ ready(records)) << (32 - records.len()) == 0)
     }
 
     fn is_lawful(&self) -> bool {
@@ -136,6 +153,7 @@ impl<'a> State<'a> {
                 .spis()
                 .iter()
                 .all(|word| is_lawful_spi(*word, count as u32))
+            && self.is_exact()
     }
 
     fn length(&self) -> usize {
@@ -182,6 +200,12 @@ fn private_numbers(own: &[u32], put: &mut impl FnMut(u32)) {
             put(set & 255);
         }
     }
+}
+
+/// A bit for each of at most 32 records: enabled, pending and not active.
+fn ready(records: &[u32]) -> u32 {
+    let bit = |word: &u32| u32::from(word & (ENABLED | PENDING | ACTIVE) == ENABLED | PENDING);
+    records.iter().rfold(0, |bits, word| bits << 1 | bit(word))
 }
 
 fn mask(word: u32) -> u32 {
@@ -305,7 +329,7 @@ fn walk(image: &[u8], mut store: impl FnMut(usize, u32)) -> Option<Shape> {
     for vcpu in 0..shape.count {
         walk_private(&mut from, vcpu, &mut store)?;
     }
-    for place in shape.spis()..shape.stacks() {
+    for place in shape.spis()..shape.summary() {
         let word = from.spi()?;
         if !is_lawful_spi(word, shape.count as u32) {
             return None;

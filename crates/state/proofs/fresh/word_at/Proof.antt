@@ -2,7 +2,7 @@
 use mathlib.Core.Path.{_≡_, sym}
 use native.Mathlib.Omega.{arith}
 use borrow.Author.Needs.{needs}
-use borrow.Author.Tests.{lt-ltb, le-ltb}
+use borrow.Author.Tests.{lt-ltb, le-ltb, lt-leb}
 use Rattle.state.specs.Layout.{headerWords, slotAt, spiStart, spiEnd}
 use Rattle.state.proofs.Places.{tail-starts}
 use Rattle.state.proofs.fresh.word_at.Statement.{statement}
@@ -13,7 +13,9 @@ header-word-requires c κs = search needs
 
 returns : tie.Need-returns
 unfolding slotAt
-returns c = simp (lt-ltb _ _ (c .before .if1 .taken)) (c .header-word .ensures)
+returns c =
+    let a = c .before .before .args in
+    simp (lt-leb (spiEnd (a .shape)) (a .at) (omega arith), lt-ltb _ _ (c .before .if1 .taken)) (c .header-word .ensures)
 
 spi-start-requires : tie.Need-spi-start-requires
 spi-start-requires c κs = search needs
@@ -23,7 +25,9 @@ vcpu-word-requires c κs = search needs
 
 returns-2 : tie.Need-returns-2
 unfolding slotAt
-returns-2 c = simp (le-ltb _ _ (c .before .before .before .if1 .left), lt-ltb (c .before .before .before .before .args .at) (spiStart (c .before .before .before .before .args .shape)) (omega arith)) (c .vcpu-word .ensures _ _)
+returns-2 c =
+    let a = c .before .before .before .before .args in
+    simp (lt-leb (spiEnd (a .shape)) (a .at) (omega arith), le-ltb _ _ (c .before .before .before .if1 .left), lt-ltb (a .at) (spiStart (a .shape)) (omega arith)) (c .vcpu-word .ensures _ _)
 
 spi-end-requires : tie.Need-spi-end-requires
 spi-end-requires c κs = search needs
@@ -45,7 +49,7 @@ unfolding slotAt
 returns-3 c =
     let a = c .before .before .before .before .before .before .args in
     let e : c .before .before .before .before .spi-start .result ≡ spiStart (a .shape) = c .before .before .before .before .spi-start .ensures in
-    simp (le-ltb (a .at) headerWords (omega arith), le-ltb (a .at) (spiStart (a .shape)) (omega arith), lt-ltb (a .at) (spiEnd (a .shape)) (omega arith)) (simp e at (c .starting-word .ensures))
+    simp (lt-leb (spiEnd (a .shape)) (a .at) (omega arith), le-ltb (a .at) headerWords (omega arith), le-ltb (a .at) (spiStart (a .shape)) (omega arith), lt-ltb (a .at) (spiEnd (a .shape)) (omega arith)) (simp e at (c .starting-word .ensures))
 
 returns-4 : tie.Need-returns-4
 returns-4 c =

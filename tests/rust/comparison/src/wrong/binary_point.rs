@@ -1,13 +1,13 @@
 //! Request Two taken wrong: what the binary point makes of priorities.
-use super::{Controller, is_accepted, read, taken, wrong};
+use super::{Controller, as_if, is_accepted, read, taken, wrong};
 use crate::{
-    request::{Place, Request, packed},
-    slots::{binary_point, places, record},
+    request::{Place, Request},
+    slots::{binary_point, places, record, spis},
 };
 use model::{edits, image};
 use oracle::{
     RegisterRegion::CpuInterface,
-    machine::{Machine, SPURIOUS},
+    machine::SPURIOUS,
     register::*,
     words::{HEADER, STACK, VCPU},
 };
@@ -136,20 +136,10 @@ fn compared_as_it_is(request: &Request, before: &[u32], given: &mut u64, words: 
     }
 }
 
-/// Answers as a sound controller would, had its words been changed so before the call.
-fn as_if(request: &Request, given: &mut u64, mut words: Vec<u32>, change: impl FnOnce(&mut [u32])) {
-    change(&mut words);
-    if let Some(call) = request.call() {
-        let answer = Machine::lent(&words).call(&call);
-        *given = packed(&answer.expect("a sound oracle"));
-    }
-}
-
 /// The vCPU whose best is asked for or taken, of those that there are.
 fn asks_for_best(request: &Request, given: u64, words: &[u32]) -> Option<u64> {
-    let best = [GICC_IAR, GICC_AIAR, GICC_HPPIR, GICC_AHPPIR];
-    let at = read(request).filter(|at| best.contains(&at.offset))?;
-    (is_accepted(given) && at.vcpu < u64::from(words[0])).then_some(at.vcpu)
+    let exists = |vcpu: &u64| is_accepted(given) && *vcpu < u64::from(words[0]);
+    request.selects().filter(exists)
 }
 
 /// A group is below the mask just where its priorities are below the mask rounded up.
@@ -168,8 +158,7 @@ fn best_by_group(request: &Request, before: &[u32], given: &mut u64, _: &mut [u3
         as_if(request, given, before.to_vec(), |words| {
             let (point, own) = (binary_point(words, vcpu), places(words, vcpu).0);
             let mask = words[own + 1] & 255;
-            let spis = HEADER + VCPU * words[0] as usize..places(words, 0).1;
-            for at in (own + 20..own + VCPU).chain(spis) {
+            for at in (own + 20..own + VCPU).chain(spis(words)) {
                 let priority = words[at] >> 8 & 255;
                 let grouped = if priority < mask {
                     group(priority, point)

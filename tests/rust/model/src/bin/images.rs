@@ -30,6 +30,7 @@ fn main() {
     list.served();
     list.grouped();
     list.full();
+    list.summary();
     list.largest();
     list.unlawful();
     print!("{}", list.text);
@@ -257,6 +258,63 @@ impl List {
         }
     }
 
+    /// Two words of the summary of the ready: 63 and 64 are, 32 and 65 are not pending. A save is refused if a bit below the limit is turned;
+    /// from there up none counts, and a load makes them 0.
+    fn summary(&mut self) {
+        self.lines(&[
+            "n 2 66",
+            "D 0 0 4 1",
+            "C 0 0 4 1",
+            "C 0 4 4 255",
+            "C 1 0 4 1",
+            "C 1 4 4 255",
+            "D 0 2080 1 1", // 32, 63 and 64 to vCPU 0, 65 to vCPU 1
+            "D 0 2111 1 1",
+            "D 0 2112 2 513",
+            "D 0 260 4 2147483649",
+            "D 0 264 4 3",
+            "l 0 63 1",
+            "l 0 64 1",
+        ]);
+        self.save_exactly();
+        self.rooms();
+        let first = words::size(2, 66) - 2 * STACK_MAX - 2;
+        self.each_bit(first);
+        self.each_bit(first + 1);
+        self.save(16384);
+        let flags = [0, 31, 32, 33].map(|spi| 171 + 4 * spi); // 32, 63, 64, 65
+        let flags = flags.map(|number| edits::numbers(&self.image)[number].start);
+        let flips = edits::flips(&self.image).into_iter();
+        self.edits(flips.filter(|edit| flags.contains(&edit.at)));
+        self.strewn(first + 1);
+    }
+
+    /// The second word of that summary with every bit from the limit up, which stay; its others are false now and then, and are set anew
+    /// with their records.
+    fn strewn(&mut self, second: usize) {
+        const PAST: u32 = !3;
+        self.word(second, PAST + 1);
+        self.save(16384);
+        self.rooms();
+        self.lines(&["c 0 12 4"]); // 63
+        self.save(16384);
+        self.rooms();
+        self.word(second, PAST);
+        self.save(16384);
+        self.lines(&["C 0 16 4 64"]); // which is not served, and not stored
+        self.save(16384);
+        self.lines(&["D 0 1088 1 0"]); // the priority that 64 has
+        self.save(16384);
+        for line in ["D 0 264 4 2", "c 1 12 4"] {
+            self.word(second, PAST + 3);
+            self.save(16384);
+            self.lines(&[line]); // 65 is enabled already; it is given
+            self.save(16384);
+            assert_eq!(self.words[second], PAST + 1);
+        }
+        self.rooms();
+    }
+
     fn largest(&mut self) {
         self.lines(&["n 8 1020"]);
         self.save_exactly();
@@ -271,7 +329,8 @@ impl List {
         self.lines(&["D 0 260 4 1", "D 0 2080 1 2", "l 0 32 1", "c 1 12 4"]);
         let stacks = self.words.len() - 2 * STACK_MAX;
         let sgi = 3 + 20;
-        let places = [0, 1, 2, 3, 4, 5, 6, 7, sgi, sgi + 16, 58, stacks - 1];
+        let (spi, summary) = (stacks - 2, stacks - 1);
+        let places = [0, 1, 2, 3, 4, 5, 6, 7, sgi, sgi + 16, 58, spi, summary];
         for place in places
             .into_iter()
             .chain([stacks, stacks + STACK_MAX, stacks + STACK_MAX + 1])

@@ -1,5 +1,5 @@
 //! The CPU interface's registers: acknowledge, end, deactivate.
-use super::{Answer, Gic, IIDR, Outlook, SPURIOUS, gives, refused};
+use super::{Answer, Best, Gic, IIDR, Outlook, SPURIOUS, gives, refused};
 use crate::{
     InterruptState,
     place::{bad_span, cut},
@@ -56,13 +56,13 @@ impl Gic {
             Outlook::Refused => return refused(7),
             Outlook::Number => {}
         }
-        let id = best.unwrap().id;
-        let slot = self.slot(v, id);
-        let r = &mut self.records[slot];
-        r.file.mark_inflight();
-        r.owner = Some(v);
-        r.file.synchronize_inflight(InterruptState::Active);
-        let priority = r.priority();
+        // By a false bit its record may be not enabled, not pending or active: it is given like any other.
+        let Best { id, priority } = best.unwrap();
+        self.change(v, id, |r| {
+            r.file.mark_inflight();
+            r.owner = Some(v);
+            r.file.synchronize_inflight(InterruptState::Active);
+        });
         let entry = (id, self.group_priority(v, priority)); // "the stack holds it"
         self.stack[v as usize].push(entry);
         if id < 16 {
@@ -84,8 +84,7 @@ impl Gic {
         }
         self.sources[at] &= !(1 << lowest);
         if self.sources[at] != 0 {
-            let slot = self.slot(v, id);
-            self.records[slot].set_pending(true);
+            self.change(v, id, |r| r.set_pending(true));
         }
         lowest
     }
@@ -143,17 +142,20 @@ impl Gic {
         if id >= self.limit {
             return SPURIOUS;
         }
-        let slot = self.slot(v, id);
-        let r = &mut self.records[slot];
+        let r = &self.records[self.slot(v, id)];
         if r.inflight() && r.owner == Some(v) {
-            let pending = r.file.pending();
-            r.file.deactivate_inflight(pending);
-            r.owner = None;
+            self.change(v, id, |r| {
+                let pending = r.file.pending();
+                r.file.deactivate_inflight(pending);
+                r.owner = None;
+            });
             return id;
         }
         if r.file.active() && !r.inflight() {
-            r.file.complete();
+            self.change(v, id, |r| {
+                r.file.complete();
+            });
         }
-        SPURIOUS
+        SPURIOUS // no transition but these two: else a false bit stays
     }
 }

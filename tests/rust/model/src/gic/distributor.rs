@@ -153,23 +153,21 @@ impl Gic {
             if (value >> i) & 1 == 0 || id >= self.limit {
                 continue;
             }
-            let slot = self.slot(v, id);
-            let r = &mut self.records[slot];
             match bit {
                 Bit::Group => {}
-                Bit::SetEnable => r.file.set_enabled(true),
-                Bit::ClearEnable => r.file.set_enabled(false),
-                Bit::SetPend if id >= 16 => r.set_pending(true),
-                Bit::ClearPend if id >= 16 => r.set_pending(false),
+                Bit::SetEnable => self.change(v, id, |r| r.file.set_enabled(true)),
+                Bit::ClearEnable => self.change(v, id, |r| r.file.set_enabled(false)),
+                Bit::SetPend if id >= 16 => self.change(v, id, |r| r.set_pending(true)),
+                Bit::ClearPend if id >= 16 => self.change(v, id, |r| r.set_pending(false)),
                 Bit::SetPend | Bit::ClearPend => {}
-                Bit::SetActive => r.file.set_active(true),
-                Bit::ClearActive => {
+                Bit::SetActive => self.change(v, id, |r| r.file.set_active(true)),
+                Bit::ClearActive => self.change(v, id, |r| {
                     r.file.set_active(false);
                     if r.inflight() {
                         r.file.cancel_inflight();
                         r.owner = None;
                     }
-                }
+                }),
             }
         }
     }
@@ -180,8 +178,8 @@ impl Gic {
             if id < 16 || id >= self.limit {
                 continue;
             }
-            let slot = self.slot(v, id);
-            self.records[slot].set_edge((value >> (2 * i + 1)) & 1 == 1);
+            let edge = (value >> (2 * i + 1)) & 1 == 1;
+            self.change(v, id, |r| r.set_edge(edge)); // whichever it is, so all 16
         }
     }
 
@@ -191,17 +189,15 @@ impl Gic {
             Place::Priority(first) => {
                 let id = first + i;
                 if id < self.limit {
-                    let slot = self.slot(v, id);
-                    self.records[slot].file.set_priority(Priority(byte));
+                    self.change(v, id, |r| r.file.set_priority(Priority(byte)));
                 }
             }
             Place::Target(first) => {
                 let id = first + i;
                 if id >= 32 && id < self.limit {
-                    let slot = self.slot(0, id);
                     let existing = (1u64 << self.count) - 1;
                     let mask = byte & existing as u8;
-                    self.records[slot].file.set_cpu_target_mask(mask);
+                    self.change(0, id, |r| r.file.set_cpu_target_mask(mask));
                 }
             }
             Place::ClearSgi(first) => {
@@ -222,8 +218,7 @@ impl Gic {
         }
         let at = self.source_slot(v, id);
         self.sources[at] = left;
-        let slot = self.slot(v, id);
-        self.records[slot].set_pending(left != 0);
+        self.change(v, id, |r| r.set_pending(left != 0));
     }
 
     fn write_sgir(&mut self, sender: u64, value: u64) {
@@ -240,8 +235,7 @@ impl Gic {
             if hit {
                 let at = self.source_slot(t, id);
                 self.sources[at] |= 1 << sender;
-                let slot = self.slot(t, id);
-                self.records[slot].set_pending(true);
+                self.change(t, id, |r| r.set_pending(true));
             }
         }
     }

@@ -1,5 +1,6 @@
-//! Request Two's binary point, with answers worked out from its text. Request Four's are in `held_line`.
+//! Request Two's binary point, with answers worked out from its text. Request Four's are in `held_line`, request Five's in `summary`.
 mod held_line;
+mod summary;
 
 use super::*;
 use crate::{image, words};
@@ -228,8 +229,8 @@ fn a_stack_that_holds_128_is_full() {
 fn a_stack_takes_128_words() {
     let gic = Gic::new(3, 40);
     let mut words = words::write(&gic);
-    assert_eq!(words.len(), 3 + 52 * 3 + 8 + 128 * 3);
-    let stacks = 3 + 52 * 3 + 8;
+    assert_eq!(words.len(), 3 + 52 * 3 + 8 + 1 + 128 * 3);
+    let stacks = 3 + 52 * 3 + 8 + 1;
     words[3 + 52 + 3] = 128; // of vCPU 1
     words[stacks + 128] = 39 + 1024 * 254;
     words[stacks + 255] = 33 + 1024 * 2;

@@ -251,6 +251,73 @@ fn a_stack_holds_even_priorities_and_128_at_most() {
     assert_eq!(refusal(&stacked(&of_one)), 9);
 }
 
+/// Of 66: SPI 63 is ready, and 64 pending but not enabled. Its summary stands in words 141 and 142.
+fn summarized() -> Vec<u32> {
+    let words = after(&["n 2 66", "D 0 260 4 2147483648", "l 0 63 1", "l 0 64 1"]);
+    assert_eq!(words[141..143], [1 << 31, 0]);
+    words
+}
+
+/// "Exactness joins demand 3's properties", for each SPI below the limit and no other number.
+#[test]
+fn a_false_bit_is_not_saved() {
+    let state = summarized();
+    let image = saved(&state);
+    for id in 32..96 {
+        let mut words = state.clone();
+        words[141 + (id - 32) / 32] ^= 1 << (id % 32);
+        if id < 66 {
+            let mut buffer = [0xee; 999];
+            let answer = save(&words, &mut buffer);
+            assert_eq!((answer.refusal, answer.value), (9, 0), "{id}");
+            assert!(buffer.iter().all(|byte| *byte == 0xee));
+            assert_eq!(save(&words, &mut []).refusal, 9); // 9 comes before 10
+        } else {
+            assert_eq!(saved(&words), image, "{id}");
+        }
+    }
+}
+
+/// Two wrongs make no right: what is saved is what the records say, and the bits are held to it one by one.
+#[test]
+fn another_bit_does_not_make_up_for_it() {
+    let mut words = summarized();
+    words[141] = 1 << 30;
+    assert_eq!(save(&words, &mut [0; 999]).refusal, 9);
+    words[137] |= 3; // SPI 62, enabled and pending
+    words[138] &= !2; // SPI 63, not pending
+    assert_eq!(save(&words, &mut [0; 999]).refusal, 0);
+}
+
+/// "Loading makes them": exact, and 0 from the limit up, whatever stood there and in the words that were saved.
+#[test]
+fn load_makes_the_bits() {
+    let state = summarized();
+    let mut strewn = state.clone();
+    strewn[142] |= 0xffff_fffc;
+    let image = saved(&strewn);
+    for old in [0, u32::MAX] {
+        let mut words = vec![old; state.len()];
+        assert_eq!(load(&mut words, &image).refusal, 0);
+        assert_eq!(words, state);
+    }
+    // The flags of SPI 65, and all of which it is ready by.
+    let at = image.len() - 5;
+    assert_eq!(image[at..], [0, 0, 0, 0x80, 2]);
+    for flags in 0..128 {
+        let changed = with(&with(&image, at, 1, &[flags]), at + 2, 1, &[flags >> 3 & 1]);
+        let mut words = vec![0; state.len()];
+        let lawful = flags & 12 != 8 && flags & 24 != 16;
+        let refusal = if lawful { 0 } else { 9 };
+        assert_eq!(load(&mut words, &changed).refusal, refusal, "{flags}");
+        if lawful {
+            let ready = flags & 7 == 3;
+            assert_eq!(words[141..143], [1 << 31, 2 * u32::from(ready)]);
+            assert_eq!(saved(&words), changed);
+        }
+    }
+}
+
 #[test]
 fn a_buffer_that_is_too_short_is_left_alone() {
     let state = busier();

@@ -64,29 +64,37 @@ impl State {
     }
 
     /// An interrupt as this vCPU sees it; nothing from the limit up. Only a private one looks the vCPU up.
-    fn interrupt_mut(
-        &mut self,
-        vcpu: GicVcpuId,
-        intid: IntId,
-    ) -> VgicResult<Option<&mut Interrupt>> {
+    fn interrupt(&self, vcpu: GicVcpuId, intid: IntId) -> VgicResult<Option<&Interrupt>> {
         match intid {
-            IntId::Spi(spi) => Ok(self.distributor.find_mut(spi.raw())),
-            _ => Ok(self
-                .redistributor_mut(vcpu, "private interrupt")?
-                .find_mut(intid.raw())),
+            IntId::Spi(spi) => Ok(self.distributor.find(spi.raw())),
+            _ => {
+                let seen = self.redistributor(vcpu, "private interrupt")?;
+                Ok(seen.own.find(intid.raw()))
+            }
         }
     }
 
-    pub fn present_mut(&mut self, vcpu: GicVcpuId, intid: IntId) -> VgicResult<&mut Interrupt> {
-        self.interrupt_mut(vcpu, intid)?
-            .ok_or(VgicError::NoInterrupt(intid.raw()))
+    /// Calls transitions of an interrupt as this vCPU sees it, which has to be there.
+    pub fn transit<T>(
+        &mut self,
+        vcpu: GicVcpuId,
+        intid: IntId,
+        transitions: impl FnOnce(&mut Interrupt) -> T,
+    ) -> VgicResult<T> {
+        let outcome = match intid {
+            IntId::Spi(spi) => self.distributor.transit(spi.raw(), transitions),
+            _ => self
+                .redistributor_mut(vcpu, "private interrupt")?
+                .transit(intid.raw(), transitions),
+        };
+        outcome.ok_or(VgicError::NoInterrupt(intid.raw()))
     }
 
     pub fn mark_inflight(&mut self, vcpu: GicVcpuId, intid: IntId) -> VgicResult {
-        let it = self.present_mut(vcpu, intid)?;
-        it.record.mark_inflight();
-        it.owner = Some(vcpu);
-        Ok(())
+        self.transit(vcpu, intid, |it| {
+            it.record.mark_inflight();
+            it.owner = Some(vcpu);
+        })
     }
 
     pub fn synchronize_inflight(
@@ -95,27 +103,28 @@ impl State {
         intid: IntId,
         state: InterruptState,
     ) -> VgicResult<InterruptState> {
-        let it = self.present_mut(vcpu, intid)?;
-        Ok(it.record.synchronize_inflight(state))
+        self.transit(vcpu, intid, |it| it.record.synchronize_inflight(state))
     }
 
-    /// Document 01's Deactivate.
+    /// Document 01's Deactivate. Where neither of its cases is, no transition is called.
     pub fn deactivate_interrupt(
         &mut self,
         vcpu: GicVcpuId,
         intid: IntId,
     ) -> VgicResult<Option<DeliveryRetirement>> {
         self.redistributor(vcpu, "deactivate interrupt")?;
-        let Some(it) = self.interrupt_mut(vcpu, intid)? else {
+        let Some(it) = self.interrupt(vcpu, intid)? else {
             return Ok(None);
         };
         if it.inflight() && it.owner == Some(vcpu) {
-            it.record.deactivate_inflight(it.record.pending());
-            it.owner = None;
+            self.transit(vcpu, intid, |it| {
+                it.record.deactivate_inflight(it.record.pending());
+                it.owner = None;
+            })?;
             return Ok(Some(DeliveryRetirement::Emulated { intid }));
         }
         if it.record.active() && !it.inflight() {
-            it.record.complete();
+            self.transit(vcpu, intid, |it| it.record.complete())?;
         }
         Ok(None)
     }

@@ -6,6 +6,8 @@ use crate::{
 };
 use types::Parts;
 
+mod summary;
+
 /// One vCPU, SPIs 32 to 39, everything on; then `change` does to the state what no call would.
 fn changed(change: impl FnOnce(&mut State)) -> Machine {
     let mut machine = Machine::default();
@@ -91,7 +93,7 @@ fn a_record_is_shown_as_its_word() {
 
 #[test]
 fn an_sgi_pending_without_a_source_answers_source_0() {
-    let pending = |state: &mut State| own(state).find_mut(3).unwrap().record.set_pending(true);
+    let pending = |state: &mut State| own(state).private[3].record.set_pending(true);
     let mut machine = changed(pending);
     assert_eq!(answer(&mut machine, "c 0 12 4"), "0 3 0 1023");
     assert_eq!(answer(&mut machine, "d 0 3856 4"), "0 0 0 1023");
@@ -114,7 +116,7 @@ fn a_held_level_sgi_stays_pending_without_a_source() {
         let mut machine = changed(|state| {
             let sgi = SgiId::new(3).unwrap();
             own(state).pend_sgi(GicVcpuId::new(0), sgi);
-            let record = &mut own(state).find_mut(3).unwrap().record;
+            let record = &mut own(state).private[3].record;
             if !edge {
                 record.set_trigger(TriggerMode::Level);
             }
@@ -154,7 +156,7 @@ fn pending_is_cleared_as_request_four_says() {
             cpu_target_mask: Some(1),
         };
         let machine = changed(|state| {
-            state.distributor.find_mut(33).unwrap().record = access::make(&before);
+            state.distributor.spis[1].record = access::make(&before);
         });
         perform(
             machine.controller().unwrap(),
@@ -176,7 +178,7 @@ fn pending_is_cleared_as_request_four_says() {
 #[test]
 fn in_flight_but_not_active_is_acknowledged_again() {
     let mut machine = changed(|state| {
-        let it = own(state).find_mut(20).unwrap();
+        let it = &mut own(state).private[20];
         it.record.set_enabled(true);
         it.record.set_pending(true);
         it.record.mark_inflight();
@@ -189,7 +191,7 @@ fn in_flight_but_not_active_is_acknowledged_again() {
 #[test]
 fn clearing_active_leaves_the_owner_of_one_not_in_flight() {
     let stray = Some(GicVcpuId::new(0));
-    let mut machine = changed(|state| state.distributor.find_mut(33).unwrap().owner = stray);
+    let mut machine = changed(|state| state.distributor.spis[1].owner = stray);
     answer(&mut machine, "D 0 900 4 2");
     let state = machine.controller().unwrap().state();
     assert_eq!(state.distributor.find(33).unwrap().owner, stray);

@@ -10,9 +10,11 @@ use super::{
 use crate::{
     GicV3Controller, GicVcpuId, IntId, Priority, TriggerMode, access,
     controller::state::State,
+    distributor::DistributorState,
     invariants, lines,
     machine::{Call, Machine},
     redistributor::RedistributorState,
+    registers::Bank,
     words,
 };
 use model::{gic::Gic, lines::answer_line, record::Record};
@@ -33,6 +35,7 @@ fn assert_same_state(gic: &GicV3Controller, second: &Gic) {
     let all = private.chain(state.distributor.spis.iter());
     let shown = all.map(|it| (access::parts(&it.record), it.owner.map(number)));
     assert!(shown.eq(second.records.iter().map(|r| (r.parts(), r.owner))));
+    assert_eq!(state.distributor.summary, second.summary);
     for (vcpu, (_, own)) in state.redistributors.iter().enumerate() {
         assert_same_interface(own, second, vcpu);
     }
@@ -117,8 +120,27 @@ fn scramble(random: &mut Random, state: &mut State, second: &mut Gic) {
         it.owner = owner.map(|vcpu| GicVcpuId::new(vcpu as usize));
         *record = Record::make(&parts, owner);
     }
+    scramble_summary(random, &mut state.distributor);
+    second.summary.clone_from(&state.distributor.summary);
     for (vcpu, (_, own)) in state.redistributors.iter_mut().enumerate() {
         scramble_interface(random, own, second, vcpu);
+    }
+}
+
+/// Bits as the records have them, all but a few so, or any at all; and from the limit up any.
+fn scramble_summary(random: &mut Random, distributor: &mut DistributorState) {
+    let few = random.pick(&[0, 5, 100]);
+    let any = distributor.summary.iter().map(|_| random.number() as u32);
+    distributor.summary = any.collect();
+    for (index, it) in distributor.spis.iter().enumerate() {
+        if !random.percent(few) {
+            let (word, bit) = (&mut distributor.summary[index / 32], 1 << (index % 32));
+            *word = if it.ready() {
+                *word | bit
+            } else {
+                *word & !bit
+            };
+        }
     }
 }
 
@@ -172,17 +194,28 @@ fn any_start(random: &mut Random) -> (Machine, Option<Gic>, Vec<Vec<u8>>) {
 #[test]
 fn from_any_state_too() {
     let mut random = Random::new(0);
-    let mut refused_by_7 = 0;
-    for _ in 0..1000 {
+    let (mut refused_by_7, mut false_bits) = (0, 0);
+    for _ in 0..2000 {
         let (mut machine, mut second, lines) = any_start(&mut random);
         assert_same_words(machine.controller().unwrap(), second.as_ref().unwrap());
         for line in lines {
+            let before = machine.controller().unwrap().clone();
             let answer = lines::answer(&mut machine, &line).unwrap();
             let shown = String::from_utf8_lossy(&line);
             assert_eq!(second_answer(&mut second, &line), answer, "{shown}");
             assert_same_state(machine.controller().unwrap(), second.as_ref().unwrap());
             refused_by_7 += usize::from(answer.starts_with('7'));
+            false_bits += usize::from(gave_unready(&before, &line, &answer));
         }
     }
     assert!(refused_by_7 > 100, "{refused_by_7}");
+    assert!(false_bits > 100, "{false_bits}");
+}
+
+/// Whether an acknowledge gave an SPI that was not ready by its record.
+fn gave_unready(before: &GicV3Controller, line: &[u8], answer: &str) -> bool {
+    let number = answer.split(' ').nth(1).and_then(|it| it.parse().ok());
+    let spi = number.and_then(|number| before.state().distributor.find(number).cloned());
+    let call = lines::parse(line).filter(|call| call.is_acknowledge());
+    call.is_some() && spi.is_some_and(|it| !it.ready())
 }

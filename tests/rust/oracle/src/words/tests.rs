@@ -24,10 +24,10 @@ fn after(lines: &[&str]) -> Vec<u32> {
 fn the_sizes_of_the_document() {
     let rows = [
         (1, 32, 183),
-        (2, 40, 371),
-        (4, 64, 755),
-        (4, 288, 979),
-        (8, 1020, 2431),
+        (2, 40, 372),
+        (4, 64, 756),
+        (4, 288, 987),
+        (8, 1020, 2462),
     ];
     for (count, limit, words) in rows {
         assert_eq!(size(count, limit), words);
@@ -70,6 +70,28 @@ fn every_call_writes_where_the_document_says() {
 }
 
 #[test]
+fn the_bits_of_the_ready_stand_behind_the_records() {
+    // Pulsed, and enabled by three words: 32 and 63 in one word of the summary, 64 in the next, the last number in the last.
+    let (records, summary) = (3 + 2 * 52, 3 + 2 * 52 + 100 - 32);
+    let mut state = vec!["n 2 100"];
+    state.extend(["p 0 32", "p 0 63", "p 0 64", "p 0 99"]);
+    assert_eq!(after(&state)[summary..][..3], [0, 0, 0]);
+    state.extend(["D 0 260 4 2147483649", "D 0 264 4 1", "D 0 268 4 8"]);
+    let ready = after(&state);
+    assert_eq!(ready[summary..][..3], [1 | 1 << 31, 1, 1 << 3]);
+    assert_eq!((ready[records], ready[summary - 1]), (0b11, 0b11));
+    assert_eq!(ready.len(), summary + 3 + 2 * 128);
+    for (line, left) in [
+        ("D 0 388 4 1", [1 << 31, 1, 1 << 3]),     // not enabled
+        ("D 0 644 4 2147483648", [1, 1, 1 << 3]),  // not pending
+        ("D 0 776 4 1", [1 | 1 << 31, 0, 1 << 3]), // active
+    ] {
+        let all = [&state[..], &[line]].concat();
+        assert_eq!(after(&all)[summary..][..3], left, "{line}");
+    }
+}
+
+#[test]
 fn what_is_served_stands_on_the_stack_and_has_its_owner() {
     let taken = [
         "n 2 40",
@@ -83,16 +105,18 @@ fn what_is_served_stands_on_the_stack_and_has_its_owner() {
         "c 1 12 4",
         "p 0 33",
     ];
-    let stack = 107 + 8 + 128;
+    let stack = 107 + 8 + 1 + 128;
     let state = after(&taken);
     assert_eq!(
         (state[58], state[stack], state[stack + 1]),
         (1, 33 | 16 << 10, 0)
     );
     assert_eq!(state[107 + 1], 2 << 24 | 2 << 16 | 16 << 8 | 0b1001_1111);
+    assert_eq!(state[107 + 8], 0);
     let state = after(&[&taken[..], &["C 1 16 4 33"]].concat());
     assert_eq!((state[58], state[stack]), (0, 0));
     assert_eq!(state[107 + 1], 2 << 16 | 16 << 8 | 0b1000_0011);
+    assert_eq!(state[107 + 8], 0b10);
 }
 
 #[test]
@@ -102,8 +126,8 @@ fn any_words_are_written_as_they_are_meant() {
         let mut lent: Vec<u32> = (0..size(2, 40)).map(|_| random.number() as u32).collect();
         (lent[0], lent[1], lent[6], lent[58]) = (2, 40, 128, random.below(129) as u32);
         let state = words(&Machine::lent(&lent));
-        let places = [2, 3, 4, 5, 7, 243 - 1];
-        let kept = [1, 0x201, 255, 7, 255, 0x3_ffff];
+        let places = [2, 3, 4, 5, 7, 115, 244 - 1];
+        let kept = [1, 0x201, 255, 7, 255, u32::MAX, 0x3_ffff];
         for (place, kept) in places.into_iter().zip(kept) {
             assert_eq!(state[place], lent[place] & kept, "word {place}");
         }
@@ -140,7 +164,7 @@ fn what_is_no_state_answers_6() {
     ] {
         assert_eq!(with(place, word), "6 0 0 1023", "{place} {word}");
     }
-    for length in [0, 1, 2, 3, 370] {
+    for length in [0, 1, 2, 3, 371] {
         let mut machine = Machine::lent(&fresh[..length]);
         assert_eq!(answer(&mut machine, "d 0 4 4"), "6 0 0 1023", "{length}");
     }
