@@ -14,14 +14,15 @@ use Rattle.service.proofs.Soundness.{sound-served}
 use Rattle.acknowledge.specs.declared.Read.{Read}
 use Rattle.acknowledge.specs.declared.Read.the-variants.{Value, StackFull}
 use Rattle.acknowledge.specs.Acknowledge.{refusalOf}
-use Rattle.wake.specs.Halves.{quietSet, wakeFrom}
-use Rattle.wake.proofs.WakeSets.{wake-from}
+use Rattle.wake.specs.Halves.{quietAmong, wakeFrom}
 use Rattle.cpu_interface.specs.CpuInterface.{readRegister, afterRead, writeRegister, writeRetired, readRegisterLooksUp, writeRegisterLooksUp, Reading, Writing}
 use Rattle.delivery.proofs.Answers.{full-unchanged}
 use Rattle.delivery.proofs.Registers.{each-read}
 use Rattle.delivery.proofs.Sounds.{write-sound}
 use Rattle.answer.specs.Answer.{Outcome, refused, gave, done, absent}
 use Rattle.answer.proofs.Present.{present}
+use Rattle.cpu_interface_frame.specs.Seers.{writeSeers}
+use Rattle.cpu_interface_frame.proofs.Wakes.{write-wakes}
 use Rattle.cpu_interface_frame.specs.CpuInterfaceFrame.{readInterfaceAt, writeInterfaceAt}
 
 module _ {shape : Shape} {s : List ℕ} (v : ℕ) (h : Sound shape s) where
@@ -61,6 +62,6 @@ module _ (shape : Shape) (v : ℕ) (register : CpuInterfaceRegister) (s : List �
       pub write-stays-sound : (r : List ℕ) → r ≡ writeRegister shape v register value s → Sound shape r
       write-stays-sound r e = rw e (write-sound shape v s h register value (present _ shape v (rw l at (sym a ∙ p))))
 
-      pub write-answered : (r : List ℕ) (quiet retired : ℕ) (out : Outcome) → quiet ≡ quietSet shape s → r ≡ writeRegister shape v register value s → retired ≡ writeRetired shape v register value s
+      pub write-answered : (r : List ℕ) (seers quiet retired : ℕ) (out : Outcome) → seers ≡ writeSeers shape v value s → quiet ≡ quietAmong seers shape s → r ≡ writeRegister shape v register value s → retired ≡ writeRetired shape v register value s
           → out ≡ done (wakeFrom quiet shape r) retired r → out ≡ writeInterfaceAt shape v register value s
-      write-answered r quiet retired out e f g given = given ∙ simp (g, f, e, wake-from shape (h .state .limits), ← l, ← a, p)
+      write-answered r seers quiet retired out d e f g given = given ∙ simp (g, f, e, d, write-wakes shape v value s h register (present _ shape v (rw l at (sym a ∙ p))), ← l, ← a, p)

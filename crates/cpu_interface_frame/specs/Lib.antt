@@ -1,1 +1,2 @@
 pub mod CpuInterfaceFrame
+pub mod Seers

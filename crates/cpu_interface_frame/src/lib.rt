@@ -1,7 +1,9 @@
 // The frame of a vCPU's CPU interface.
 ghost use mathlib.Core.Path.{_≡_};
+ghost use Rattle.state.specs.Layout.{Room};
 ghost use Rattle.service.specs.Service.{Sound};
 ghost use Rattle.answer.specs.Answer.{outcome};
+ghost use Rattle.cpu_interface_frame.specs.Seers.{writeSeers};
 ghost use Rattle.cpu_interface_frame.specs.CpuInterfaceFrame.{readInterfaceAt, writeInterfaceAt, ReadCpuInterfacePromise, WriteCpuInterfacePromise};
 use acknowledge::Read;
 use answer::Answer;
@@ -13,6 +15,7 @@ use cpu_interface::read_register;
 use cpu_interface::write_looks_up;
 use cpu_interface::write_register;
 use interrupt::GicVcpuId;
+use interrupt::IntId;
 use register::AccessWidth;
 use register::CpuInterfaceAccess;
 use register::CpuInterfaceRegister;
@@ -22,7 +25,9 @@ use state::Lent;
 use state::Shape;
 use state::lent::validate_state;
 use state::words::distributor_enabled;
-use wake::quiet_vcpus;
+use targets::own_byte;
+use targets::read_target;
+use wake::quiet_among;
 
 // How many values 32 bits have: no register takes more.
 const REGISTER_VALUES: u64 = 0x1_0000_0000;
@@ -63,6 +68,14 @@ pub fn read_v2_cpu_interface(
     }
 }
 
+// Whom a write can wake: its vCPU, and whom the record is for that it may deactivate.
+fn write_seers(words: &[u32], shape: Shape, vcpu: GicVcpuId, value: u32) -> u8
+    requires { ⌜ Room shape (now words) ⌝ }
+    ensures { λ r. ⌜ r ≡ writeSeers shape (vcpu .0) value (now (words .entry)) ⌝ }
+{
+    own_byte(vcpu) | read_target(words, shape, vcpu, IntId(value % 1024))
+}
+
 fn write_at(
     words: &mut [u32],
     shape: Shape,
@@ -76,7 +89,7 @@ fn write_at(
     if absent(shape, vcpu, write_looks_up(register, value)) {
         return Answer::Refused(Refusal::Vcpu);
     }
-    let quiet = quiet_vcpus(words, shape);
+    let quiet = quiet_among(words, shape, write_seers(words, shape, vcpu, value));
     let retired = write_register(words, shape, vcpu, register, value);
     done(words, shape, quiet, retired)
 }

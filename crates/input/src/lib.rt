@@ -18,7 +18,8 @@ use state::Shape;
 use state::lent::validate_state;
 use state::words::put_record;
 use state::words::record;
-use wake::quiet_vcpus;
+use targets::read_target;
+use wake::quiet_among;
 
 // What a device does to its interrupt.
 pub enum Signal {
@@ -73,7 +74,8 @@ fn input_at(words: &mut [u32], shape: Shape, vcpu: GicVcpuId, number: u64, signa
     if absent(shape, vcpu, intid.is_private()) {
         return Answer::Refused(Refusal::Vcpu);
     }
-    let quiet = quiet_vcpus(words, shape);
+    // Nobody else can be woken by this record.
+    let quiet = quiet_among(words, shape, read_target(words, shape, vcpu, intid));
     signal_record(words, shape, vcpu, intid, signal);
     done(words, shape, quiet, IntId::SPURIOUS)
 }

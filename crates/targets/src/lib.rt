@@ -18,7 +18,7 @@ pub fn vcpu_bit(vcpu: GicVcpuId) -> u8
     1 << vcpu.0
 }
 
-fn own_byte(vcpu: GicVcpuId) -> u8
+pub fn own_byte(vcpu: GicVcpuId) -> u8
     ensures { λ r. ⌜ r ≡ ownByte (vcpu .0) ⌝ }
 {
     if vcpu.0 < 8 { vcpu_bit(vcpu) } else { 0 }

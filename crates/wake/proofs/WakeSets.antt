@@ -1,6 +1,6 @@
 -- What is computed before and after a call is the wake set as it is defined. Assumes nothing.
-use mathlib.Core.Path.{_≡_, refl, ap, _∙_}
-use mathlib.Core.Bool.{Bool, true, false, _&&_}
+use mathlib.Core.Path.{_≡_, refl, sym, ap, _∙_}
+use mathlib.Core.Bool.{Bool, true, false, _&&_, true≢false}
 use mathlib.Core.List.{List}
 use Prim.Native.Nat.{ℕ, suc, _+_, _*_, _/_, _%_, _^_, _<_}
 use native.Mathlib.Nat.{one-mul}
@@ -17,7 +17,7 @@ use Rattle.state.specs.Loop.{everyBelow}
 use Rattle.state.proofs.Tests.{every-at}
 use Rattle.wake.specs.declared.IarAnswer.{IarAnswer}
 use Rattle.wake.specs.declared.IarAnswer.the-variants.{Spurious, Number}
-use Rattle.wake.specs.Halves.{answersSo, amongAnswers, answeringAmong, quietSet, wakeFrom}
+use Rattle.wake.specs.Halves.{answersSo, amongAnswers, answeringAmong, quietAmong, quietSet, wakeFrom}
 use Rattle.wake.specs.Wake.{wakeSet, woken}
 
 -- one bit more fits a byte
@@ -31,18 +31,26 @@ all-among : (v : ℕ) → v < 8 → eqb (everyVcpu / 2 ^ v % 2) 1 ≡ true
 unfolding everyBelow
 all-among v h = every-at (λ u. eqb (everyVcpu / 2 ^ u % 2) 1) 8 v refl h
 
-module _ (shape : Shape) (l : Limits shape) where
-  -- the bit of a vCPU among the quiet ones
-  pub quiet-bit : (s : List ℕ) (v : ℕ) → v < shape .count → eqb (quietSet shape s / 2 ^ v % 2) 1 ≡ answersSo Spurious shape s v
-  unfolding answeringAmong
-  quiet-bit s v h =
-      let f : ℕ → ℕ = λ u. bitOf (amongAnswers Spurious everyVcpu shape s u) in
-      let at : gathered 1 f (shape .count) / 2 ^ v % 2 ≡ f v = rw one-mul at (gathered-field 1 f (λ u. bit-fits (amongAnswers Spurious everyVcpu shape s u)) (shape .count) v h) in
-      ap (λ (x : ℕ). eqb x 1) at ∙ bit-back (amongAnswers Spurious everyVcpu shape s v) ∙ ap (λ (b : Bool). b && answersSo Spurious shape s v) (all-among v (omega arith))
+-- the bit of a vCPU among the quiet ones
+quiet-bit : (shape : Shape) (among : ℕ) (s : List ℕ) (v : ℕ) → v < shape .count → eqb (quietAmong among shape s / 2 ^ v % 2) 1 ≡ amongAnswers Spurious among shape s v
+unfolding answeringAmong
+quiet-bit shape among s v h =
+    let f : ℕ → ℕ = λ u. bitOf (amongAnswers Spurious among shape s u) in
+    let at : gathered 1 f (shape .count) / 2 ^ v % 2 ≡ f v = rw one-mul at (gathered-field 1 f (λ u. bit-fits (amongAnswers Spurious among shape s u)) (shape .count) v h) in
+    ap (λ (x : ℕ). eqb x 1) at ∙ bit-back (amongAnswers Spurious among shape s v)
 
-  -- before and after together
-  pub wake-from : (before after : List ℕ) → wakeFrom (quietSet shape before) shape after ≡ wakeSet shape before after
-  unfolding answeringAmong wakeSet
-  wake-from before after =
-      gathered-same 1 (λ v. bitOf (amongAnswers Number (quietSet shape before) shape after v)) (λ v. bitOf (woken shape before after v)) (shape .count)
-      (λ v h. ap (λ (b : Bool). bitOf (b && answersSo Number shape after v)) (quiet-bit before v h))
+-- before and after together, where nobody else can be woken
+pub wake-among : (shape : Shape) (among : ℕ) (before after : List ℕ) → ((v : ℕ) → v < shape .count → eqb (among / 2 ^ v % 2) 1 ≡ false → woken shape before after v ≡ false)
+    → wakeFrom (quietAmong among shape before) shape after ≡ wakeSet shape before after
+unfolding answeringAmong wakeSet
+wake-among shape among before after others =
+    gathered-same 1 (λ v. bitOf (amongAnswers Number (quietAmong among shape before) shape after v)) (λ v. bitOf (woken shape before after v)) (shape .count)
+    (λ v h. ap bitOf (ap (λ (b : Bool). b && answersSo Number shape after v) (quiet-bit shape among before v h) ∙ go v h (eqb (among / 2 ^ v % 2) 1) refl))
+  where
+    go : (v : ℕ) → v < shape .count → (b : Bool) → eqb (among / 2 ^ v % 2) 1 ≡ b → (b && answersSo Spurious shape before v && answersSo Number shape after v) ≡ woken shape before after v
+    go v h true e = refl
+    go v h false e = sym (others v h e)
+
+-- .. and of everybody
+pub wake-from : (shape : Shape) → Limits shape → (before after : List ℕ) → wakeFrom (quietSet shape before) shape after ≡ wakeSet shape before after
+wake-from shape l before after = wake-among shape everyVcpu before after (λ v h e. absurd (true≢false (sym (all-among v (omega arith)) ∙ e)))

@@ -1,4 +1,4 @@
--- How a wake set is computed, in two halves: before a call who is quiet, after it who of these is not. A reader need not believe any of it; the
+-- How a wake set is computed, in two halves: before a call who is quiet, of those whom it can wake, and after it who of these is not. A reader need not believe any of it; the
 -- promise is in Wake.antt, and proofs/WakeSets.antt shows that the halves make it.
 use mathlib.Core.Bool.{Bool, true, false, _&&_}
 use mathlib.Core.List.{List}
@@ -26,9 +26,13 @@ amongAnswers answer among shape s v = eqb (among / 2 ^ v % 2) 1 && answersSo ans
 unfoldable pub answeringAmong : IarAnswer → ℕ → Shape → List ℕ → ℕ
 answeringAmong answer among shape s = gathered 1 (λ v. bitOf (amongAnswers answer among shape s v)) (shape .count)
 
--- before the call everybody is asked
+-- before the call those are asked whom it can wake
+abbrev pub quietAmong : ℕ → Shape → List ℕ → ℕ
+quietAmong among shape s = answeringAmong Spurious among shape s
+
+-- .. or everybody
 abbrev pub quietSet : Shape → List ℕ → ℕ
-quietSet shape s = answeringAmong Spurious everyVcpu shape s
+quietSet shape s = quietAmong everyVcpu shape s
 
 -- after it the quiet ones
 abbrev pub wakeFrom : ℕ → Shape → List ℕ → ℕ

@@ -3,7 +3,7 @@ ghost use mathlib.Core.Path.{_≡_};
 ghost use Prim.Native.Nat.{_*_, _^_, _<_};
 ghost use Rattle.word.specs.Word.{bitOf};
 ghost use Rattle.service.specs.Service.{Served, Sound};
-ghost use Rattle.wake.specs.Halves.{answersSo, amongAnswers, answeringAmong, quietSet, wakeFrom, ready};
+ghost use Rattle.wake.specs.Halves.{answersSo, amongAnswers, answeringAmong, quietAmong, quietSet, wakeFrom, ready};
 use acknowledge::offer;
 use interrupt::GicVcpuId;
 use select::Selected;
@@ -76,12 +76,19 @@ fn answering_among(words: &[u32], shape: Shape, among: u8, answer: IarAnswer) ->
     bits
 }
 
-// Before a call: the vCPUs that an IAR read would give 1023.
+// Before a call: those of these vCPUs that an IAR read would give 1023.
+pub fn quiet_among(words: &[u32], shape: Shape, among: u8) -> u8
+    requires { ⌜ Sound shape (now words) ⌝ }
+    ensures { λ r. ⌜ r ≡ quietAmong among shape (now (words .entry)) ⌝ }
+{
+    answering_among(words, shape, among, IarAnswer::Spurious)
+}
+
 pub fn quiet_vcpus(words: &[u32], shape: Shape) -> u8
     requires { ⌜ Sound shape (now words) ⌝ }
     ensures { λ r. ⌜ r ≡ quietSet shape (now (words .entry)) ⌝ }
 {
-    answering_among(words, shape, EVERYBODY, IarAnswer::Spurious)
+    quiet_among(words, shape, EVERYBODY)
 }
 
 // After the call: those of them that it would give a number.

@@ -13,8 +13,11 @@ absent-requires c κs = search needs
 returns : tie.Need-returns
 returns c = search write-refused
 
-quiet-vcpus-requires : tie.Need-quiet-vcpus-requires
-quiet-vcpus-requires c κs = search needs
+write-seers-requires : tie.Need-write-seers-requires
+write-seers-requires c κs = search needs
+
+quiet-among-requires : tie.Need-quiet-among-requires
+quiet-among-requires c κs = search needs
 
 write-register-requires : tie.Need-write-register-requires
 write-register-requires c κs = search write-passed
@@ -35,7 +38,8 @@ write-at-spec =
     write-looks-up-requires
     absent-requires
     returns
-    quiet-vcpus-requires
+    write-seers-requires
+    quiet-among-requires
     write-register-requires
     done-requires
     same-length
