@@ -1,1 +1,2 @@
 pub mod Acknowledge
+pub mod Bound

@@ -5,6 +5,7 @@ ghost use Rattle.state.specs.Layout.{Sources};
 ghost use Rattle.state.specs.Words.{Reached, HoldsSlot, changed, withSources};
 ghost use Rattle.select.specs.declared.Selected.the-variants.{Best};
 ghost use Rattle.service.specs.Service.{pushed, Served};
+ghost use Rattle.acknowledge.specs.Bound.{roundedUp, preemptionBound};
 ghost use Rattle.acknowledge.specs.Acknowledge.{groupPriority, groupOf, preempts, preempting, offer, lowestSource, sourceOf, pendIfLeft, sourceTaken, givenRecord, pushedFor, given, answered, taken, acknowledge, acknowledged, MayAcknowledge, Givable};
 use interrupt::GicVcpuId;
 use interrupt::IntId;
@@ -61,6 +62,26 @@ fn preempts(words: &[u32], shape: Shape, vcpu: GicVcpuId, candidate: Candidate) 
     ensures { λ r. ⌜ r ≡ preempts shape (vcpu .0) (now (words .entry)) candidate ⌝ }
 {
     group_of(words, shape, vcpu, candidate).0 < running_priority(words, shape, vcpu).0
+}
+
+// Up to a whole group.
+fn rounded_up(priority: Priority, point: u32) -> u32
+    requires { ⌜ point < 8 ⌝ }
+    ensures { λ r. ⌜ r ≡ roundedUp point (priority .0) ⌝ }
+{
+    let bits = point + 1;
+    let ones = (1 << bits) - 1;
+    let groups = (priority.0 as u32 + ones) >> bits;
+    groups << bits
+}
+
+// A priority below it preempts what runs.
+pub fn preemption_bound(words: &[u32], shape: Shape, vcpu: GicVcpuId) -> u32
+    requires { ⌜ Served shape (vcpu .0) (now words) ⌝ }
+    ensures { λ r. ⌜ (r ≡ preemptionBound shape (vcpu .0) (now (words .entry))) × (r < 1024) ⌝ }
+{
+    let point = interface_value(words, shape, vcpu, InterfaceValue::BinaryPoint);
+    rounded_up(running_priority(words, shape, vcpu), point)
 }
 
 fn preempting(words: &[u32], shape: Shape, vcpu: GicVcpuId, selected: Selected) -> Selected

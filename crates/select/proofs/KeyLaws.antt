@@ -2,8 +2,9 @@
 use mathlib.Core.Path.{_≡_, refl, sym, ap, _∙_}
 use mathlib.Core.Bool.{Bool, true, false, cond, _&&_, and-comm}
 use mathlib.Core.List.{List}
+use mathlib.Core.Logic.{inl, inr}
 use Prim.Native.Nat.{ℕ, zero, suc, _+_, _*_, _-_, _/_, _%_, _≤_, _<_}
-use native.Mathlib.Nat.{add-zero, zero-add, add-suc, le-refl}
+use native.Mathlib.Nat.{add-zero, zero-add, add-suc, le-refl, not-suc-le-zero}
 use native.Mathlib.Omega.{arith}
 use lib.Dec.{ltb}
 use lib.ListN.{length, getD}
@@ -20,7 +21,7 @@ use Rattle.select.specs.declared.Candidate.{Candidate}
 use Rattle.select.specs.declared.Selected.{Selected}
 use Rattle.select.specs.declared.Selected.the-variants.{Best, Nothing}
 use Rattle.select.specs.Select.{offered, candidate, candidateFor, wins, better, bestAmong, bestBelow, best, readyAt, Looked}
-use Rattle.select.specs.Keys.{privateBits, spiBits, testOf, readyWord, keyOf, selectedBy, least, withWord, leastKey, everyNumber, bitIsSet}
+use Rattle.select.specs.Keys.{privateBits, spiBits, testOf, readyWord, keyOf, selectedBy, least, withWord, leastKey, everyNumber, bitIsSet, LowEnough, urgent}
 use Rattle.select.proofs.Ready.{private-word, spi-word}
 
 -- a selection among the numbers below n, of a priority below the mask
@@ -41,6 +42,33 @@ key-back mask n (Best e) h w =
     let a : (1024 * e .priority .0 + e .intid .0) % 1024 ≡ e .intid .0 = omega arith in
     let b : (1024 * e .priority .0 + e .intid .0) / 1024 ≡ e .priority .0 = omega arith in
     simp (lt-ltb _ _ k, a, b)
+
+-- below the mask and below a bound at once
+pub bound-key : (mask bound n : ℕ) (b : Selected) → n ≤ 1024 → Bounded mask n b → ltb (keyOf (1024 * mask) b) (least (1024 * mask) (1024 * bound)) ≡ urgent bound b
+bound-key mask bound n b h w = go (ltb (1024 * mask) (1024 * bound)) refl b w
+  where
+    go : (t : Bool) → ltb (1024 * mask) (1024 * bound) ≡ t → (b : Selected) → Bounded mask n b → ltb (keyOf (1024 * mask) b) (cond t (1024 * mask) (1024 * bound)) ≡ urgent bound b
+    go true e Nothing w = le-ltb (1024 * mask) (1024 * mask) (le-refl (1024 * mask))
+    go false e Nothing w = le-ltb (1024 * mask) (1024 * bound) (ltb-false _ _ e)
+    go true e (Best c) w =
+        let i : c .intid .0 < n = w .0 in
+        let p : c .priority .0 < mask = w .1 in
+        let m = ltb-true (1024 * mask) (1024 * bound) e in
+        lt-ltb (1024 * c .priority .0 + c .intid .0) (1024 * mask) (omega arith) ∙ sym (lt-ltb (c .priority .0) bound (omega arith))
+    go false e (Best c) w = let i : c .intid .0 < n = w .0 in below (ltb (c .priority .0) bound) refl i
+      where
+        below : (x : Bool) → ltb (c .priority .0) bound ≡ x → c .intid .0 < n → ltb (1024 * c .priority .0 + c .intid .0) (1024 * bound) ≡ x
+        below true q i = let a = ltb-true (c .priority .0) bound q in lt-ltb (1024 * c .priority .0 + c .intid .0) (1024 * bound) (omega arith)
+        below false q i = let a = ltb-false (c .priority .0) bound q in le-ltb (1024 * c .priority .0 + c .intid .0) (1024 * bound) (omega arith)
+
+-- a search that stopped early tells whether the least key is low enough, and one that may not stop gives it
+pub low-same : (enough full r : ℕ) → LowEnough enough full r → ltb r enough ≡ ltb full enough
+low-same enough full r (inl e) = rw e
+low-same enough full r (inr w) = lt-ltb r enough (w .0) ∙ sym (lt-ltb full enough (w .1))
+
+pub low-exact : (full r : ℕ) → LowEnough 0 full r → r ≡ full
+low-exact full r (inl e) = e
+low-exact full r (inr w) = absurd (not-suc-le-zero (w .0))
 
 -- what is at or past the mask changes nothing
 past-mask : (mask n k : ℕ) (x : Selected) → n ≤ 1024 → Bounded mask n x → 1024 * mask ≤ k → least k (keyOf (1024 * mask) x) ≡ keyOf (1024 * mask) x
@@ -171,6 +199,9 @@ module _ (shape : Shape) (v : ℕ) (s : List ℕ) where
         stands = record-run shape v 32 j (λ p. absurd (not-lt-self p)) ∙ spi-first j;
         passes = rw (le-ltb (32 + j) 32 (omega arith), spi-word v (wordAt shape (Spi (32 + j)) s) few) (and-comm (readyBit shape (32 + j) s) _);
       }
+
+  pub urgent-best : Limits shape → (bound : ℕ) → ltb (best-key (shape .limit)) (least (1024 * mask) (1024 * bound)) ≡ urgent bound (best shape v s)
+  urgent-best l bound = bound-key mask bound (shape .limit) (best shape v s) (omega arith) (bounded (shape .limit))
 
   pub selected-best : Limits shape → selectedBy (1024 * mask) (best-key (shape .limit)) ≡ best shape v s
   selected-best l = key-back mask (shape .limit) (best shape v s) (omega arith) (bounded (shape .limit))

@@ -5,14 +5,15 @@ use mathlib.Core.List.{List}
 use Prim.Native.Nat.{ℕ, zero, suc, _+_, _*_, _-_, _/_, _%_, _≤_, _<_}
 use native.Mathlib.Nat.{add-suc, add-zero}
 use native.Mathlib.Omega.{arith}
+use lib.Dec.{ltb}
 use lib.ListN.{getD}
-use borrow.Author.Tests.{lt-ltb, le-ltb}
+use borrow.Author.Tests.{lt-ltb, le-ltb, ltb-true}
 use Rattle.word.specs.Word.{flag}
 use Rattle.state.specs.declared.layout.Shape.{Shape}
 use Rattle.state.specs.Layout.{summaryStart, summaryWords}
 use Rattle.state.specs.Words.{readyBit}
 use Rattle.select.specs.declared.WordTest.{WordTest}
-use Rattle.select.specs.Keys.{withWord, leastKey, bitIsSet, walked, withNumber, withSummaryWord}
+use Rattle.select.specs.Keys.{readyWord, least, withWord, leastKey, bitIsSet, walked, withNumber, withSummaryWord}
 
 module _ (shape : Shape) (test : WordTest) (offset : ℕ) (s : List ℕ) (start : ℕ) where
   abbrev ready : ℕ → Bool
@@ -77,3 +78,32 @@ module _ (shape : Shape) (test : WordTest) (offset : ℕ) (s : List ℕ) (start 
   last-word h =
       let e : 32 * summaryWords shape ≡ 32 * summaryWords shape - (shape .limit - 32) + (shape .limit - 32) = omega arith in
       ap leastOf e ∙ past (32 * summaryWords shape - (shape .limit - 32)) h
+
+  -- a key only falls, so one that is low enough says that the last is
+  falls : (i : ℕ) → leastOf (suc i) ≤ leastOf i
+  unfolding leastOf
+  falls i = go (ready i) (ltb (32 + i) (shape .limit)) (readyWord test (getD s (offset + (32 + i)) 0))
+    where
+      k : ℕ
+      k = 1024 * (getD s (offset + (32 + i)) 0 / 256 % 256) + (32 + i)
+
+      smaller : (b : Bool) → ltb k (leastOf i) ≡ b → cond b k (leastOf i) ≤ leastOf i
+      smaller true e = let h = ltb-true k (leastOf i) e in omega arith
+      smaller false e = omega arith
+
+      go : (a b c : Bool) → cond a (cond b (cond c (least k (leastOf i)) (leastOf i)) (leastOf i)) (leastOf i) ≤ leastOf i
+      go true true true = smaller (ltb k (leastOf i)) refl
+      go true true false = omega arith
+      go true false c = omega arith
+      go false b c = omega arith
+
+  fall-to : (i j : ℕ) → leastOf (i + j) ≤ leastOf i
+  fall-to i zero = rw (add-zero i) (omega arith)
+  fall-to i (suc j) = let a = fall-to i j in let b = falls (i + j) in rw (add-suc i j) (omega arith)
+
+  pub low-enough : (g enough : ℕ) → 32 ≤ shape .limit → g ≤ summaryWords shape → leastOf (32 * g) < enough → leastKey (bitIsSet shape s) test offset 32 s start (shape .limit - 32) < enough
+  low-enough g enough h b low =
+      let e : 32 * summaryWords shape ≡ 32 * g + (32 * summaryWords shape - 32 * g) = omega arith in
+      let f = fall-to (32 * g) (32 * summaryWords shape - 32 * g) in
+      let whole = last-word h in
+      rw (← whole, e) (omega arith)

@@ -2,16 +2,20 @@
 -- those whose bit is set, word by word of the summary. A reader need not believe any of it; the promise is in Select.antt.
 use mathlib.Core.Bool.{Bool, true, false, cond}
 use mathlib.Core.List.{List, [], _∷_}
-use Prim.Native.Nat.{ℕ, zero, suc, _+_, _*_, _/_, _%_, _^_, _≤_}
+use mathlib.Core.Logic.{_⊎_}
+use mathlib.Core.Path.{_≡_}
+use Prim.Native.Nat.{ℕ, zero, suc, _+_, _*_, _/_, _%_, _^_, _≤_, _<_}
 use lib.Bits.{bitAnd}
 use lib.Dec.{eqb, ltb}
 use lib.ListN.{length, getD}
 use Rattle.word.specs.Word.{bitOf, flag}
 use Rattle.state.specs.declared.layout.Shape.{Shape}
-use Rattle.state.specs.Words.{readyBit}
+use Rattle.state.specs.declared.layout.InterfaceValue.the-variants.{PriorityMask}
+use Rattle.state.specs.Words.{readyBit, interfaceAt}
 use Rattle.select.specs.declared.WordTest.{WordTest}
 use Rattle.select.specs.declared.Selected.{Selected}
 use Rattle.select.specs.declared.Selected.the-variants.{Best, Nothing}
+use Rattle.select.specs.Select.{Looked}
 
 -- a bit of a word, and how it is wanted
 pub record WantedBit : Type 0 where
@@ -85,6 +89,20 @@ withNumber test offset limit s n so-far = cond (ltb n limit) (withWord test n (g
 -- the 32 numbers from `first` up, whose word of the summary is x
 abbrev pub withSummaryWord : WordTest → ℕ → ℕ → List ℕ → ℕ → ℕ → ℕ → ℕ
 withSummaryWord test offset limit s first x start = walked (λ i. withNumber test offset limit s (first + i)) x start 32
+
+-- a search that may stop early: r is the least key, or else both are low enough
+abbrev pub LowEnough : ℕ → ℕ → ℕ → Type 0
+LowEnough enough least-key r = (r ≡ least-key) ⊎ ((r < enough) × (least-key < enough))
+
+-- a selection of a priority below b
+abbrev pub urgent : ℕ → Selected → Bool
+urgent b Nothing = false
+urgent b (Best c) = ltb (c .priority .0) b
+
+-- the words hold a state with this vCPU, and `none` is the key where its mask begins
+pub record Sought (shape : Shape) (v none : ℕ) (s : List ℕ) : Type 0 where
+  pub looked : Looked shape v s
+  pub masked : none ≡ 1024 * interfaceAt shape v PriorityMask s
 
 -- records of the numbers below the limit
 pub record NumbersAt (offset limit : ℕ) (s : List ℕ) : Type 0 where

@@ -5,7 +5,7 @@ ghost use Rattle.state.specs.Layout.{spiStart, Room};
 ghost use Rattle.state.specs.declared.layout.InterfaceValue.the-variants.{PriorityMask};
 ghost use Rattle.state.specs.Words.{interfaceAt};
 ghost use Rattle.select.specs.Select.{best, bothOn, selectedNumber, highestPending, Looked};
-ghost use Rattle.select.specs.Keys.{privateBits, spiBits, testOf, readyWord, selectedBy, least, withWord, leastKey, everyNumber, bitIsSet, withNumber, withSummaryWord, NumbersAt, KeyRun};
+ghost use Rattle.select.specs.Keys.{privateBits, spiBits, testOf, readyWord, selectedBy, least, withWord, leastKey, everyNumber, bitIsSet, withNumber, withSummaryWord, keyOf, LowEnough, urgent, Sought, NumbersAt, KeyRun};
 use interrupt::GicVcpuId;
 use interrupt::IntId;
 use interrupt::Priority;
@@ -141,10 +141,10 @@ fn with_summary_word(
     key
 }
 
-// Of the SPIs whose bit is set, and `start`.
-fn least_ready(words: &[u32], shape: Shape, test: WordTest, start: u32) -> u32
+// Of the SPIs whose bit is set, and `start`; a key below `enough` ends the search.
+fn least_ready(words: &[u32], shape: Shape, test: WordTest, start: u32, enough: u32) -> u32
     requires { ⌜ Room shape (now words) ⌝ }
-    ensures { λ r. ⌜ r ≡ leastKey (bitIsSet shape (now (words .entry))) test (spiStart shape - 32) 32 (now (words .entry)) start (shape .limit - 32) ⌝ }
+    ensures { λ r. ⌜ LowEnough enough (leastKey (bitIsSet shape (now (words .entry))) test (spiStart shape - 32) 32 (now (words .entry)) start (shape .limit - 32)) r ⌝ }
 {
     let offset = shape.spi_start() - 32;
     let summary = shape.spi_end();
@@ -152,6 +152,9 @@ fn least_ready(words: &[u32], shape: Shape, test: WordTest, start: u32) -> u32
     let mut key = start;
     let mut g = 0;
     while g < many {
+        if key < enough {
+            return key;
+        }
         let bits = words[summary + g];
         let first = 32 + 32 * g as u32;
         key = with_summary_word(words, offset, shape.limit, first, bits, test, key);
@@ -183,17 +186,34 @@ fn v2_priority_mask(words: &[u32], shape: Shape, vcpu: GicVcpuId) -> Priority
     Priority::new(bits as u8)
 }
 
+// The key of the best, or one below `enough`; a key is below `none` exactly if its priority is below the mask.
+fn best_key(words: &[u32], shape: Shape, vcpu: GicVcpuId, none: u32, enough: u32) -> u32
+    requires { ⌜ Sought shape (vcpu .0) none (now words) ⌝ }
+    ensures { λ r. ⌜ LowEnough enough (keyOf none (best shape (vcpu .0) (now (words .entry)))) r ⌝ }
+{
+    let own = record_place(shape, vcpu, IntId(0));
+    let private = least_key(words, own, 0, 32, private_test(), none);
+    least_ready(words, shape, spi_test(vcpu), private, enough)
+}
+
 pub fn highest_pending(words: &[u32], shape: Shape, vcpu: GicVcpuId) -> Selected
     requires { ⌜ Looked shape (vcpu .0) (now words) ⌝ }
     ensures { λ r. ⌜ r ≡ best shape (vcpu .0) (now (words .entry)) ⌝ }
 {
     let mask = v2_priority_mask(words, shape, vcpu);
-    // A key is below it exactly if its priority is below the mask.
     let none = 1024 * mask.0 as u32;
-    let own = record_place(shape, vcpu, IntId(0));
-    let private = least_key(words, own, 0, 32, private_test(), none);
-    let key = least_ready(words, shape, spi_test(vcpu), private);
-    of_key(key, none)
+    of_key(best_key(words, shape, vcpu, none, 0), none)
+}
+
+// Whether the best has a priority below `bound`: the first word of the summary with such a one ends the walk.
+pub fn some_below(words: &[u32], shape: Shape, vcpu: GicVcpuId, bound: u32) -> bool
+    requires { ⌜ (Looked shape (vcpu .0) (now words)) × (bound < 1024) ⌝ }
+    ensures { λ r. ⌜ r ≡ urgent bound (best shape (vcpu .0) (now (words .entry))) ⌝ }
+{
+    let mask = v2_priority_mask(words, shape, vcpu);
+    let none = 1024 * mask.0 as u32;
+    let enough = least(none, 1024 * bound);
+    best_key(words, shape, vcpu, none, enough) < enough
 }
 
 pub fn both_enabled(words: &[u32], shape: Shape, vcpu: GicVcpuId) -> bool

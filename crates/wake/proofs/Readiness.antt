@@ -13,12 +13,14 @@ use Rattle.state.specs.Words.{interfaceAt}
 use Rattle.select.specs.declared.Candidate.{Candidate}
 use Rattle.select.specs.declared.Selected.{Selected}
 use Rattle.select.specs.declared.Selected.the-variants.{Best, Nothing}
+use Rattle.select.specs.Keys.{urgent}
 use Rattle.select.specs.Select.{candidate, candidateFor, best, bothOn}
 use Rattle.select.proofs.Meaning.{best-is, none-is}
 use Rattle.service.specs.Service.{depthAt, running}
 use Rattle.acknowledge.specs.declared.Read.the-variants.{Value, StackFull}
 use Rattle.acknowledge.specs.Acknowledge.{groupOf, preempts, preempting, offer, sourceOf, answered, acknowledge}
-use Rattle.acknowledge.proofs.Grouping.{group-in-order}
+use Rattle.acknowledge.specs.Bound.{preemptionBound}
+use Rattle.acknowledge.proofs.Grouping.{group-in-order, bound-preempts}
 use Rattle.acknowledge.proofs.Offers.{offer-below}
 use Rattle.wake.specs.Halves.{isSome, ready}
 use Rattle.wake.specs.Wake.{isSpurious, givesNumber}
@@ -36,6 +38,23 @@ module _ (shape : Shape) (v : ℕ) (s : List ℕ) where
     pub preempting-ready : bothOn shape v s ≡ true → ready shape v s ≡ true
     unfolding ready offer
     preempting-ready on = simp on (some-preempting (best shape v s) refl)
+
+  -- the direct test: both are on, and the best is below the bound
+  pub ready-below : ready shape v s ≡ (bothOn shape v s && urgent (preemptionBound shape v s) (best shape v s))
+  unfolding ready offer
+  ready-below = go (bothOn shape v s) (best shape v s)
+    where
+      point : interfaceAt shape v BinaryPoint s < 8
+      point = omega arith
+
+      some-if : (b : Bool) (c : Candidate) → isSome (cond b (Best c) Nothing) ≡ b
+      some-if true c = refl
+      some-if false c = refl
+
+      go : (on : Bool) (x : Selected) → isSome (cond on (preempting shape v s x) Nothing) ≡ (on && urgent (preemptionBound shape v s) x)
+      go false x = refl
+      go true Nothing = refl
+      go true (Best c) = some-if (preempts shape v s c) c ∙ sym (bound-preempts (interfaceAt shape v BinaryPoint s) (c .priority .0) (running shape v s) point)
 
   -- what is handed out is never 1023
   number-not : Limits shape → (e : Candidate) → offer shape v s ≡ Best e → eqb (e .intid .0 + 1024 * sourceOf shape v (e .intid .0) s) 1023 ≡ false

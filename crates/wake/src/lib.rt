@@ -4,9 +4,10 @@ ghost use Prim.Native.Nat.{_*_, _^_, _<_};
 ghost use Rattle.word.specs.Word.{bitOf};
 ghost use Rattle.service.specs.Service.{Served, Sound};
 ghost use Rattle.wake.specs.Halves.{answersSo, amongAnswers, answeringAmong, quietAmong, quietSet, wakeFrom, ready};
-use acknowledge::offer;
+use acknowledge::preemption_bound;
 use interrupt::GicVcpuId;
-use select::Selected;
+use select::both_enabled;
+use select::some_below;
 use service::depth;
 use state::Shape;
 use state::layout::STACK_CAPACITY;
@@ -26,9 +27,11 @@ fn ready(words: &[u32], shape: Shape, vcpu: GicVcpuId) -> bool
     requires { ⌜ Served shape (vcpu .0) (now words) ⌝ }
     ensures { λ r. ⌜ r ≡ ready shape (vcpu .0) (now (words .entry)) ⌝ }
 {
-    match offer(words, shape, vcpu) {
-        Selected::Best(_) => true,
-        Selected::Nothing => false,
+    // Some candidate is enough, which need not be the best.
+    if both_enabled(words, shape, vcpu) {
+        some_below(words, shape, vcpu, preemption_bound(words, shape, vcpu))
+    } else {
+        false
     }
 }
 

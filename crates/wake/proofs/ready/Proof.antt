@@ -1,25 +1,38 @@
 -- `wake::ready` meets its contract. Assumes nothing.
-use Rattle.wake.specs.Halves.{ready}
 use borrow.Author.Needs.{needs}
+use Rattle.wake.proofs.Readiness.{ready-below}
 use Rattle.wake.proofs.ready.Statement.{statement}
 use Rattle.wake.proofs.ready.Tie as tie
 
-offer-requires : tie.Need-offer-requires
-offer-requires c κs = search needs
+both-enabled-requires : tie.Need-both-enabled-requires
+both-enabled-requires c κs = search needs
 
-enum-told : tie.Need-enum-told
-enum-told c = search needs
+preemption-bound-requires : tie.Need-preemption-bound-requires
+preemption-bound-requires c κs = search needs
 
-enum-told-2 : tie.Need-enum-told-2
-enum-told-2 c = search needs
+some-below-requires : tie.Need-some-below-requires
+some-below-requires c κs = search needs
 
 returns : tie.Need-returns
-unfolding ready
-returns c = simp (← c .before .before .offer .ensures, c .enum-told .given .1)
+returns c =
+    let bounded = c .before in
+    let on = bounded .before in
+    let start = on .before .before .before in
+    let a = start .args in
+    rw (ready-below (a .shape) (a .vcpu .0) (a .words .now), ← on .before .both-enabled .ensures, on .if1 .taken, ← bounded .preemption-bound .ensures .0) (c .some-below .ensures)
 
 returns-2 : tie.Need-returns-2
-unfolding ready
-returns-2 c = simp (← c .before .before .offer .ensures, c .enum-told2 .given .1)
+returns-2 c =
+    let start = c .before .before .before in
+    let a = start .args in
+    rw (ready-below (a .shape) (a .vcpu .0) (a .words .now), ← c .before .both-enabled .ensures, c .if1 .left)
 
 pub ready-spec : {M : Type 1} → statement M
-ready-spec = tie.close (tie.spec offer-requires enum-told enum-told-2 returns returns-2)
+ready-spec =
+    tie.close
+    (tie.spec
+    both-enabled-requires
+    preemption-bound-requires
+    some-below-requires
+    returns
+    returns-2)
