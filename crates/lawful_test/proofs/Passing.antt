@@ -27,7 +27,7 @@ use Rattle.state.proofs.Accessors.{record-spi}
 use Rattle.state.proofs.Tests.{left-true, right-true, not-below, every-at, every-true}
 use Rattle.service.specs.Service.{depthAt, stackTo, runningOf}
 use Rattle.lawful.specs.Lawful.{priorityAt, Charged, OrderlyRecord, LawfulRecord, Lawful}
-use Rattle.lawful_test.specs.LawfulTest.{implied, ownerLawful, maskLawful, sgiLawful, recordLawful, sourcesLawful, numberLawful, entryLawfulAt, stackLawful, vcpuLawful, saysSame, bitLawful, spiLawful, isLawful}
+use Rattle.lawful_test.specs.LawfulTest.{implied, ownerLawful, maskLawful, sgiLawful, recordLawful, sourcesLawful, numberLawful, entryLawfulAt, stackLawful, vcpuLawful, saysSame, bitLawful, spiPasses, isLawful}
 
 pub implied-holds : (a b : Bool) → (a ≡ true → b ≡ true) → implied a b ≡ true
 implied-holds true b h = h refl
@@ -230,7 +230,7 @@ module _ (shape : Shape) (s : List ℕ) where
       (every-true (vcpuLawful shape s) (shape .count) (λ v b. both-true (stackLawful shape v s) _
       (stack-passes h v b)
       (every-true (λ k. numberLawful shape v s (0 + k)) 32 (λ k low. number-passes h v (0 + k) (record { numbered = omega (arith, h .in-range .state .limits .private-numbers); banked = λ x. b })))))
-      (every-true (λ k. spiLawful shape s (32 + k)) (shape .limit - 32) (λ k c. both-true (numberLawful shape 0 s (32 + k)) _
+      (every-true (λ k. spiPasses shape s (32 + k)) (shape .limit - 32) (λ k c. both-true (numberLawful shape 0 s (32 + k)) _
       (number-passes h 0 (32 + k) (record { numbered = omega arith; banked = λ x. absurd (omega arith) }))
       (bit-passes (h .orderly .summary) (32 + k) (omega arith) (omega arith))))
 
@@ -260,12 +260,12 @@ module _ (shape : Shape) (s : List ℕ) where
         let same : 0 + n ≡ n = omega arith in
         rw same at (every-at (λ k. numberLawful shape v s (0 + k)) 32 n all low)
 
-    spi-pass : (n : ℕ) → 32 ≤ n → n < shape .limit → spiLawful shape s n ≡ true
+    spi-pass : (n : ℕ) → 32 ≤ n → n < shape .limit → spiPasses shape s n ≡ true
     unfolding isLawful
     spi-pass n high b =
         let all = right-true (everyBelow (vcpuLawful shape s) (shape .count)) _ pass in
         let same : 32 + (n - 32) ≡ n = omega arith in
-        rw same at (every-at (λ k. spiLawful shape s (32 + k)) (shape .limit - 32) (n - 32) all (omega arith))
+        rw same at (every-at (λ k. spiPasses shape s (32 + k)) (shape .limit - 32) (n - 32) all (omega arith))
 
     record-pass : (v n : ℕ) → RecordThere shape v n → Passed shape v n (recordAt shape v n s)
     unfolding numberLawful

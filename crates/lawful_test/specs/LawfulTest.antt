@@ -83,11 +83,11 @@ abbrev pub bitLawful : Shape → List ℕ → ℕ → Bool
 bitLawful shape s n = saysSame (readyBit shape n s) (isReady (recordAt shape 0 n s))
 
 -- the records of SPIs are every vCPU's, and met as the first one's
-abbrev pub spiLawful : Shape → List ℕ → ℕ → Bool
-spiLawful shape s n = numberLawful shape 0 s n && bitLawful shape s n
+abbrev pub spiPasses : Shape → List ℕ → ℕ → Bool
+spiPasses shape s n = numberLawful shape 0 s n && bitLawful shape s n
 
-abbrev pub spisLawful : Shape → List ℕ → ℕ → Bool
-spisLawful shape s many = everyBelow (λ k. spiLawful shape s (32 + k)) many
+abbrev pub spisPass : Shape → List ℕ → ℕ → Bool
+spisPass shape s many = everyBelow (λ k. spiPasses shape s (32 + k)) many
 
 unfoldable pub isLawful : Shape → List ℕ → Bool
-isLawful shape s = everyBelow (vcpuLawful shape s) (shape .count) && spisLawful shape s (shape .limit - 32)
+isLawful shape s = everyBelow (vcpuLawful shape s) (shape .count) && spisPass shape s (shape .limit - 32)

@@ -6,7 +6,7 @@ ghost use Rattle.state.specs.Layout.{Limits, Sources};
 ghost use Rattle.state.specs.Loop.{everyBelow};
 ghost use Rattle.state.specs.Words.{Reached, HoldsSlot};
 ghost use Rattle.service.specs.Service.{Served, Sound};
-ghost use Rattle.lawful_test.specs.LawfulTest.{mayServe, ownerLawful, maskLawful, sgiLawful, recordLawful, sourcesLawful, numberLawful, numbersLawful, entryLawful, stackLawful, vcpuLawful, saysSame, spiLawful, spisLawful, isLawful};
+ghost use Rattle.lawful_test.specs.LawfulTest.{mayServe, ownerLawful, maskLawful, sgiLawful, recordLawful, sourcesLawful, numberLawful, numbersLawful, entryLawful, stackLawful, vcpuLawful, saysSame, spiPasses, spisPass, isLawful};
 ghost use Rattle.lawful_test.specs.Quiet.{quiet};
 use interrupt::CpuTargetMask;
 use interrupt::GicVcpuId;
@@ -167,7 +167,7 @@ fn says_same(a: bool, b: bool) -> bool
 // The records of SPIs are met as vCPU 0 meets them.
 fn spi_lawful(words: &[u32], shape: Shape, spi: IntId) -> bool
     requires { ⌜ (Reached shape 0 (spi .0) (now words)) × (32 ≤ spi .0) ⌝ }
-    ensures { λ r. ⌜ r ≡ spiLawful shape (now (words .entry)) (spi .0) ⌝ }
+    ensures { λ r. ⌜ r ≡ spiPasses shape (now (words .entry)) (spi .0) ⌝ }
 {
     let at = record_place(shape, GicVcpuId(0), spi);
     let word = words[at];
@@ -180,7 +180,7 @@ fn spi_lawful(words: &[u32], shape: Shape, spi: IntId) -> bool
 
 fn spis_lawful(words: &[u32], shape: Shape) -> bool
     requires { ⌜ Sound shape (now words) ⌝ }
-    ensures { λ r. ⌜ r ≡ spisLawful shape (now (words .entry)) (shape .limit - 32) ⌝ }
+    ensures { λ r. ⌜ r ≡ spisPass shape (now (words .entry)) (shape .limit - 32) ⌝ }
 {
     let many = shape.limit - FIRST_SPI;
     let mut i = 0;

@@ -10,7 +10,7 @@ use Rattle.state.specs.Lent.{HoldsState}
 use Rattle.state.specs.Loop.{everyBelow}
 use Rattle.state.proofs.Tests.{every-true}
 use Rattle.lawful.specs.Lawful.{Lawful}
-use Rattle.lawful_test.specs.LawfulTest.{numberLawful, stackLawful, vcpuLawful, spiLawful, isLawful}
+use Rattle.lawful_test.specs.LawfulTest.{numberLawful, stackLawful, vcpuLawful, spiPasses, isLawful}
 use Rattle.lawful_test.proofs.Passing.{both-true, number-passes, stack-passes, passes-lawful, bit-passes}
 use Rattle.image.specs.Parts.{Part, Registers, Service, Interrupt, partCount, partAt, PartThere}
 use Rattle.image.proofs.Cases.{service-part, private-part}
@@ -42,7 +42,7 @@ module _ (shape : Shape) (s : List ℕ) where
         both-true (everyBelow (vcpuLawful shape s) (shape .count)) _
         (every-true (vcpuLawful shape s) (shape .count) (λ v b. both-true (stackLawful shape v s) _ (stack-lawful v b)
         (every-true (λ k. numberLawful shape v s (0 + k)) 32 (λ k low. private-lawful v (0 + k) b (omega arith)))))
-        (every-true (λ k. spiLawful shape s (32 + k)) (shape .limit - 32) (λ k b. both-true (numberLawful shape 0 s (32 + k)) _ (spi-lawful k b) (bit-passes shape s summary (32 + k) (omega arith) (omega arith))))
+        (every-true (λ k. spiPasses shape s (32 + k)) (shape .limit - 32) (λ k b. both-true (numberLawful shape 0 s (32 + k)) _ (spi-lawful k b) (bit-passes shape s summary (32 + k) (omega arith) (omega arith))))
 
     pub parts-lawful : Lawful shape s
     parts-lawful = passes-lawful shape s h passes

@@ -18,7 +18,7 @@ use Rattle.state.proofs.Places.{Inner}
 use Rattle.state.proofs.Steps.{Agree}
 use Rattle.service.specs.Service.{depthAt, stackTo, runningOf, Sound}
 use Rattle.interrupt.specs.Record.{isReady}
-use Rattle.lawful_test.specs.LawfulTest.{implied, recordLawful, sourcesLawful, numberLawful, entryLawful, entryLawfulAt, stackLawful, vcpuLawful, saysSame, spiLawful, isLawful}
+use Rattle.lawful_test.specs.LawfulTest.{implied, recordLawful, sourcesLawful, numberLawful, entryLawful, entryLawfulAt, stackLawful, vcpuLawful, saysSame, spiPasses, isLawful}
 use Rattle.image.specs.Image.{each, entryNumbers, interfaceNumbers, serviceNumbers, recordNumbers, privateNumbersAt, spiNumbers, spiNumbersAt, bodyNumbers, image}
 use Rattle.reach.proofs.Readings.{Alike, when, record-alike, bit-alike, control-alike, interface-alike, sources-alike}
 
@@ -89,7 +89,7 @@ module _ {shape : Shape} {r s : List ℕ} (same : Alike shape r s) (h : Sound sh
     vcpu-alike : vcpuLawful shape r v ≡ vcpuLawful shape s v
     vcpu-alike = λ j. stack-alike j && every-same (λ k. numberLawful shape v r (0 + k)) (λ k. numberLawful shape v s (0 + k)) 32 (λ k low. number-alike v (0 + k) (private-there (0 + k) (omega arith))) j
 
-  spi-alike : (k : ℕ) → k < shape .limit - 32 → spiLawful shape r (32 + k) ≡ spiLawful shape s (32 + k)
+  spi-alike : (k : ℕ) → k < shape .limit - 32 → spiPasses shape r (32 + k) ≡ spiPasses shape s (32 + k)
   spi-alike k b =
       λ j. number-alike 0 (32 + k) (spi-there k b) j && saysSame (bit-alike same (32 + k) (omega arith, omega arith) j) (isReady (record-alike same 0 (32 + k) (spi-there k b) j))
 
@@ -97,7 +97,7 @@ module _ {shape : Shape} {r s : List ℕ} (same : Alike shape r s) (h : Sound sh
   unfolding isLawful
   lawful-alike =
       λ j. every-same (vcpuLawful shape r) (vcpuLawful shape s) (shape .count) vcpu-alike j
-      && every-same (λ k. spiLawful shape r (32 + k)) (λ k. spiLawful shape s (32 + k)) (shape .limit - 32) (λ k b. spi-alike k b) j
+      && every-same (λ k. spiPasses shape r (32 + k)) (λ k. spiPasses shape s (32 + k)) (shape .limit - 32) (λ k b. spi-alike k b) j
 
   body-alike : bodyNumbers shape r ≡ bodyNumbers shape s
   unfolding bodyNumbers

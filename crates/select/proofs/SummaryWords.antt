@@ -13,14 +13,14 @@ use Rattle.state.specs.declared.layout.Shape.{Shape}
 use Rattle.state.specs.Layout.{summaryStart, summaryWords}
 use Rattle.state.specs.Words.{readyBit}
 use Rattle.select.specs.declared.WordTest.{WordTest}
-use Rattle.select.specs.Keys.{readyWord, least, withWord, leastKey, bitIsSet, walked, withNumber, withSummaryWord}
+use Rattle.select.specs.Keys.{readyWord, least, withWord, leastKey, bitIsSet, bitsWalked, withSpi, withSummaryWord}
 
 module _ (shape : Shape) (test : WordTest) (offset : ℕ) (s : List ℕ) (start : ℕ) where
   abbrev ready : ℕ → Bool
   ready i = readyBit shape (32 + i) s
 
   abbrev one : ℕ → ℕ → ℕ
-  one i key = withNumber test offset (shape .limit) s (32 + i) key
+  one i key = withSpi test offset (shape .limit) s (32 + i) key
 
   -- of the first i SPIs those that exist
   unfoldable pub leastOf : ℕ → ℕ
@@ -58,8 +58,8 @@ module _ (shape : Shape) (test : WordTest) (offset : ℕ) (s : List ℕ) (start 
       let b : (32 + (32 * g + j)) % 32 ≡ j = omega arith in
       rw (a, b)
 
-  in-word : (g j : ℕ) → j ≤ 32 → leastOf (32 * g + j) ≡ walked (λ i. withNumber test offset (shape .limit) s (32 + 32 * g + i)) (getD s (summaryStart shape + g) 0) (leastOf (32 * g)) j
-  unfolding leastOf walked
+  in-word : (g j : ℕ) → j ≤ 32 → leastOf (32 * g + j) ≡ bitsWalked (λ i. withSpi test offset (shape .limit) s (32 + 32 * g + i)) (getD s (summaryStart shape + g) 0) (leastOf (32 * g)) j
+  unfolding leastOf bitsWalked
   in-word g zero h = rw (add-zero (32 * g))
   in-word g (suc j) h =
       let number : 32 + (32 * g + j) ≡ 32 + 32 * g + j = omega arith in

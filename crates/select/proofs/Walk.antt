@@ -10,7 +10,7 @@ use lib.Dec.{eqb}
 use lib.Pow.{pow-pos, ones-lt, shl-shr, low}
 use Rattle.word.specs.Word.{flag}
 use Rattle.state.proofs.WordBits.{apart, below, elsewhere}
-use Rattle.select.specs.Keys.{walked}
+use Rattle.select.specs.Keys.{bitsWalked}
 
 -- x is an odd number, shifted by t, which is less than k
 record Shifted (k x t : ℕ) : Type 0 where
@@ -102,14 +102,14 @@ cleared k x p h =
 
 module _ (f : ℕ → ℕ → ℕ) where
   -- no set bit below k: nothing is taken
-  none-walked : (x a k : ℕ) → ((i : ℕ) → i < k → flag i x ≡ false) → walked f x a k ≡ a
-  unfolding walked
-  none-walked x a zero h = refl
-  none-walked x a (suc k) h = ap (λ (b : Bool). cond b (f k (walked f x a k)) (walked f x a k)) (h k (omega arith)) ∙ none-walked x a k (λ i b. h i (omega arith))
+  none-bitsWalked : (x a k : ℕ) → ((i : ℕ) → i < k → flag i x ≡ false) → bitsWalked f x a k ≡ a
+  unfolding bitsWalked
+  none-bitsWalked x a zero h = refl
+  none-bitsWalked x a (suc k) h = ap (λ (b : Bool). cond b (f k (bitsWalked f x a k)) (bitsWalked f x a k)) (h k (omega arith)) ∙ none-bitsWalked x a k (λ i b. h i (omega arith))
 
   -- the lowest first, then the rest
-  lowest-first : (m x t y a : ℕ) → Cleared m x t y → (k : ℕ) → t < k → walked f x a k ≡ walked f y (f t a) k
-  unfolding walked
+  lowest-first : (m x t y a : ℕ) → Cleared m x t y → (k : ℕ) → t < k → bitsWalked f x a k ≡ bitsWalked f y (f t a) k
+  unfolding bitsWalked
   lowest-first m x t y a c zero h = absurd (not-suc-le-zero h)
   lowest-first m x t y a c (suc k) h = apart t k now (λ b. later b (lowest-first m x t y a c k b)) (λ b. absurd (not-past b))
     where
@@ -122,23 +122,23 @@ module _ (f : ℕ → ℕ → ℕ) where
           not-same : i ≡ t → i < t → ⊥
           not-same e b = omega arith
 
-      at : walked f x a (suc t) ≡ walked f y (f t a) (suc t)
+      at : bitsWalked f x a (suc t) ≡ bitsWalked f y (f t a) (suc t)
       at =
-          ap₂ (λ (b : Bool) (n : ℕ). cond b (f t n) n) (c .set) (none-walked x a t (c .none))
-          ∙ sym (ap₂ (λ (b : Bool) (n : ℕ). cond b (f t n) n) (c .gone) (none-walked y (f t a) t none-of-y))
+          ap₂ (λ (b : Bool) (n : ℕ). cond b (f t n) n) (c .set) (none-bitsWalked x a t (c .none))
+          ∙ sym (ap₂ (λ (b : Bool) (n : ℕ). cond b (f t n) n) (c .gone) (none-bitsWalked y (f t a) t none-of-y))
 
-      now : t ≡ k → walked f x a (suc k) ≡ walked f y (f t a) (suc k)
-      now e = subst (λ (n : ℕ). walked f x a (suc n) ≡ walked f y (f t a) (suc n)) e at
+      now : t ≡ k → bitsWalked f x a (suc k) ≡ bitsWalked f y (f t a) (suc k)
+      now e = subst (λ (n : ℕ). bitsWalked f x a (suc n) ≡ bitsWalked f y (f t a) (suc n)) e at
 
-      later : t < k → walked f x a k ≡ walked f y (f t a) k → walked f x a (suc k) ≡ walked f y (f t a) (suc k)
+      later : t < k → bitsWalked f x a k ≡ bitsWalked f y (f t a) k → bitsWalked f x a (suc k) ≡ bitsWalked f y (f t a) (suc k)
       later b ih = ap₂ (λ (b : Bool) (n : ℕ). cond b (f k n) n) (c .rest k (λ e. not-same e b)) ih
         where
           not-same : k ≡ t → t < k → ⊥
           not-same e b = omega arith
 
   -- a turn of the walk, and its end
-  pub walk-turn : (x a : ℕ) → 0 < x → x < 2 ^ 32 → walked f x a 32 ≡ walked f (bitAnd x (x - 1)) (f (trailingZeros 32 x) a) 32
+  pub walk-turn : (x a : ℕ) → 0 < x → x < 2 ^ 32 → bitsWalked f x a 32 ≡ bitsWalked f (bitAnd x (x - 1)) (f (trailingZeros 32 x) a) 32
   walk-turn x a p h = let c = cleared 32 x p h in lowest-first 32 x (trailingZeros 32 x) (bitAnd x (x - 1)) a c 32 (c .inside)
 
-  pub walk-end : (a : ℕ) → walked f 0 a 32 ≡ a
-  walk-end a = none-walked 0 a 32 (λ i b. no-bit i)
+  pub walk-end : (a : ℕ) → bitsWalked f 0 a 32 ≡ a
+  walk-end a = none-bitsWalked 0 a 32 (λ i b. no-bit i)

@@ -78,17 +78,17 @@ abbrev pub bitIsSet : Shape → List ℕ → ℕ → Bool
 bitIsSet shape s n = readyBit shape n s
 
 -- the step f at each set bit of x below k, the lowest first
-unfoldable pub walked : (ℕ → ℕ → ℕ) → ℕ → ℕ → ℕ → ℕ
-walked f x a zero = a
-walked f x a (suc i) = cond (flag i x) (f i (walked f x a i)) (walked f x a i)
+unfoldable pub bitsWalked : (ℕ → ℕ → ℕ) → ℕ → ℕ → ℕ → ℕ
+bitsWalked f x a zero = a
+bitsWalked f x a (suc i) = cond (flag i x) (f i (bitsWalked f x a i)) (bitsWalked f x a i)
 
 -- one number more, if it is below the limit: the last word of the summary has bits to spare
-abbrev pub withNumber : WordTest → ℕ → ℕ → List ℕ → ℕ → ℕ → ℕ
-withNumber test offset limit s n so-far = cond (ltb n limit) (withWord test n (getD s (offset + n) 0) so-far) so-far
+abbrev pub withSpi : WordTest → ℕ → ℕ → List ℕ → ℕ → ℕ → ℕ
+withSpi test offset limit s n so-far = cond (ltb n limit) (withWord test n (getD s (offset + n) 0) so-far) so-far
 
 -- the 32 numbers from `first` up, whose word of the summary is x
 abbrev pub withSummaryWord : WordTest → ℕ → ℕ → List ℕ → ℕ → ℕ → ℕ → ℕ
-withSummaryWord test offset limit s first x start = walked (λ i. withNumber test offset limit s (first + i)) x start 32
+withSummaryWord test offset limit s first x start = bitsWalked (λ i. withSpi test offset limit s (first + i)) x start 32
 
 -- a search that may stop early: r is the least key, or else both are low enough
 abbrev pub LowEnough : ℕ → ℕ → ℕ → Type 0

@@ -5,7 +5,7 @@ ghost use Rattle.state.specs.Layout.{spiStart, Room};
 ghost use Rattle.state.specs.declared.layout.InterfaceValue.the-variants.{PriorityMask};
 ghost use Rattle.state.specs.Words.{interfaceAt};
 ghost use Rattle.select.specs.Select.{best, bothOn, selectedNumber, highestPending, Looked};
-ghost use Rattle.select.specs.Keys.{privateBits, spiBits, testOf, readyWord, selectedBy, least, withWord, leastKey, everyNumber, bitIsSet, withNumber, withSummaryWord, keyOf, LowEnough, urgent, Sought, NumbersAt, KeyRun};
+ghost use Rattle.select.specs.Keys.{privateBits, spiBits, testOf, readyWord, selectedBy, least, withWord, leastKey, everyNumber, bitIsSet, withSpi, withSummaryWord, keyOf, LowEnough, urgent, Sought, NumbersAt, KeyRun};
 use interrupt::GicVcpuId;
 use interrupt::IntId;
 use interrupt::Priority;
@@ -79,10 +79,11 @@ fn with_record(word: u32, intid: IntId, test: WordTest, so_far: u32) -> u32
     requires { ⌜ intid .0 < 1020 ⌝ }
     ensures { λ r. ⌜ r ≡ withWord test (intid .0) word «so_far» ⌝ }
 {
-    // Both keys are made, so that no branch hangs on the word.
-    let key = 1024 * (word / 256 % 256) + intid.0;
-    let offered = if is_ready(word, test) { key } else { so_far };
-    least(offered, so_far)
+    if is_ready(word, test) {
+        least(1024 * (word / 256 % 256) + intid.0, so_far)
+    } else {
+        so_far
+    }
 }
 
 // Of the numbers from `first` to below `end`, and `start`; the record of the number n is at `offset + n`.
@@ -99,6 +100,16 @@ fn least_key(words: &[u32], offset: usize, first: u32, end: u32, test: WordTest,
     key
 }
 
+// The same where the walk comes by: both keys are made, so that no branch hangs on the word.
+fn with_spi(word: u32, intid: IntId, test: WordTest, so_far: u32) -> u32
+    requires { ⌜ intid .0 < 1020 ⌝ }
+    ensures { λ r. ⌜ r ≡ withWord test (intid .0) word «so_far» ⌝ }
+{
+    let key = 1024 * (word / 256 % 256) + intid.0;
+    let offered = if is_ready(word, test) { key } else { so_far };
+    least(offered, so_far)
+}
+
 // A bit of the summary may be of no number.
 fn with_number(
     words: &[u32],
@@ -109,10 +120,10 @@ fn with_number(
     so_far: u32,
 ) -> u32
     requires { ⌜ NumbersAt offset limit (now words) ⌝ }
-    ensures { λ r. ⌜ r ≡ withNumber test offset limit (now (words .entry)) (intid .0) «so_far» ⌝ }
+    ensures { λ r. ⌜ r ≡ withSpi test offset limit (now (words .entry)) (intid .0) «so_far» ⌝ }
 {
     if intid.0 < limit {
-        with_record(words[offset + intid.0 as usize], intid, test, so_far)
+        with_spi(words[offset + intid.0 as usize], intid, test, so_far)
     } else {
         so_far
     }

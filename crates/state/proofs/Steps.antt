@@ -1,6 +1,6 @@
 -- Steps taken one after another, each with things of its own: what a step's own things read at the end is what that step alone makes of
 -- the start, and things that no step has stay. So a register's write can be read field by field. A thing is whatever words are read by
--- (`View`): a slot with its word (`slots`), or one bit of a slot's word (`SlotBits`). Assumes nothing.
+-- (`View`): a slot with its word (`slots`). Assumes nothing.
 use mathlib.Core.Path.{_≡_, refl, _∙_}
 use mathlib.Core.List.{List}
 use Prim.Native.Nat.{ℕ, zero, suc, _≤_, _<_}

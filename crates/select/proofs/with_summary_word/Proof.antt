@@ -5,7 +5,7 @@ use native.Mathlib.Omega.{arith}
 use lib.Bits.{bitAnd, and-le-l}
 use lib.Count.{trailing-le}
 use borrow.Author.Needs.{needs}
-use Rattle.select.specs.Keys.{walked, withNumber, withSummaryWord}
+use Rattle.select.specs.Keys.{bitsWalked, withSpi, withSummaryWord}
 use Rattle.select.proofs.Walk.{cleared, walk-turn, walk-end}
 use Rattle.select.proofs.with_summary_word.Statement.{statement}
 use Rattle.select.proofs.with_summary_word.Tie as tie
@@ -38,10 +38,10 @@ loop-again : tie.Need-loop-again Inv-loop μ-loop
 loop-again c =
     let a = c .before .before .before .before .args in
     let at-turn = c .before .before .loop in
-    let step : ℕ → ℕ → ℕ = λ i. withNumber (a .test) (a .offset) (a .limit) (a .words .now) (a .first + i) in
+    let step : ℕ → ℕ → ℕ = λ i. withSpi (a .test) (a .offset) (a .limit) (a .words .now) (a .first + i) in
     let rest = bitAnd (at-turn .left) (at-turn .left - 1) in (
       omega (arith, and-le-l (at-turn .left) (at-turn .left - 1)),
-      ap (λ (key : ℕ). walked step rest key 32) (c .with-number .ensures)
+      ap (λ (key : ℕ). bitsWalked step rest key 32) (c .with-number .ensures)
           ∙ sym (walk-turn step (at-turn .left) (at-turn .key) (search needs) (search needs))
           ∙ at-turn .inv .1,
     )
@@ -50,9 +50,9 @@ returns : tie.Need-returns Inv-loop μ-loop
 returns c =
     let a = c .before .before .before .args in
     let at-end = c .before .loop in
-    let step : ℕ → ℕ → ℕ = λ i. withNumber (a .test) (a .offset) (a .limit) (a .words .now) (a .first + i) in
+    let step : ℕ → ℕ → ℕ = λ i. withSpi (a .test) (a .offset) (a .limit) (a .words .now) (a .first + i) in
     let none : at-end .left ≡ 0 = search needs in
-    sym (walk-end step (at-end .key)) ∙ ap (λ (x : ℕ). walked step x (at-end .key) 32) (sym none) ∙ at-end .inv .1
+    sym (walk-end step (at-end .key)) ∙ ap (λ (x : ℕ). bitsWalked step x (at-end .key) 32) (sym none) ∙ at-end .inv .1
 
 pub with-summary-word-spec : {M : Type 1} → statement M
 with-summary-word-spec =
