@@ -34,7 +34,7 @@ use Rattle.delivery.proofs.Ended.{ended-unchanged, ended-popped, ended-deactiva
 use Rattle.wake.specs.Halves.{quietAmong, wakeFrom}
 use Rattle.wake.specs.Wake.{woken, wakeSet}
 use Rattle.wake.proofs.Unseen.{OfOther, Aside, Unseen, unseen-none, unseen-kept, unseen-wakes-not}
-use Rattle.wake.proofs.Seen.{own-bit, record-for-all, masked-out, record-aside}
+use Rattle.wake.proofs.Seen.{own-bit, not-for-it}
 use Rattle.wake.proofs.WakeSets.{wake-among}
 use Rattle.cpu_interface_frame.specs.Seers.{writeSeers}
 
@@ -62,24 +62,22 @@ module _ (shape : Shape) (v n : ℕ) (s : List ℕ) (h : Sound shape s) (u : ℕ
     (own : eqb (ownByte v / 2 ^ u % 2) 1 ≡ false) (seen : eqb (readTarget shape v s n / 2 ^ u % 2) 1 ≡ false) where
   -- nothing is done but aside of u, and the mask of the number stays
   record Aloof (r : List ℕ) : Type 0 where
-    pub unseen : Unseen shape u n s r
+    pub unseen : Unseen shape u (recordSlot v n) s r
     pub mask : 32 ≤ n → n < shape .limit → recordAt shape v n r .«cpu_target_mask» ≡ recordAt shape v n s .«cpu_target_mask»
 
   aloof-wakes : (r : List ℕ) → Aloof r → woken shape s r u ≡ false
   aloof-wakes r a =
-      unseen-wakes-not shape u n s r exists (h .depths u exists) (a .unseen)
-      (λ high below. masked-out shape v u n s seen (recordAt shape u n r) (ap (λ (x : InterruptRecord). x .«cpu_target_mask») (record-for-all shape v u n r high) ∙ a .mask high below) high below)
-      (h .state .limits)
+      unseen-wakes-not shape u v n s r exists (h .depths u exists) (a .unseen) (h .state .limits) (not-for-it shape v u n s seen (omega (arith, exists, h .state .limits .few-vcpus)) r (a .mask))
 
   idle : Aloof s
-  idle = record { unseen = unseen-none shape u n s (h .state); mask = λ high below. refl }
+  idle = record { unseen = unseen-none shape u (recordSlot v n) s (h .state); mask = λ high below. refl }
 
   -- .. where the vCPU exists
   module _ (there : v < shape .count) where
     few : v < 8
     few = omega (arith, h .state .limits .few-vcpus)
 
-    others : (t : Slot) → vcpuOf t ≡ some v → Aside u n t
+    others : (t : Slot) → vcpuOf t ≡ some v → Aside u (recordSlot v n) t
     others t e = inr (record { whose = v; is = e; apart = own-bit v u few own })
 
     numbered : n < shape .limit → RecordThere shape v n
@@ -87,8 +85,8 @@ module _ (shape : Shape) (v n : ℕ) (s : List ℕ) (h : Sound shape s) (u : ℕ
 
     deactivation : (r : List ℕ) → Room shape r → Aloof r → Aloof (deactivated shape v n r)
     deactivation r room a = record {
-      unseen = deactivated-cases shape v n r room there (Unseen shape u n s) (a .unseen)
-          (λ b f k. unseen-kept shape u n s (recordSlot v n) (wordOf (f (recordAt shape v n r))) r (record-exists shape v n (numbered b)) (record-aside shape v u n s seen (λ low. few)) (a .unseen));
+      unseen = deactivated-cases shape v n r room there (Unseen shape u (recordSlot v n) s) (a .unseen)
+          (λ b f k. unseen-kept shape u (recordSlot v n) s (recordSlot v n) (wordOf (f (recordAt shape v n r))) r (record-exists shape v n (numbered b)) (inl refl) (a .unseen));
       mask = λ high below. ap (λ (x : InterruptRecord). x .«cpu_target_mask») (deactivated-record shape v n r room there below) ∙ mask-stays v (recordAt shape v n r) ∙ a .mask high below;
     }
 
@@ -97,7 +95,7 @@ module _ (shape : Shape) (v n : ℕ) (s : List ℕ) (h : Sound shape s) (u : ℕ
 
     pop : (0 < depthAt shape v s) → Aloof (popped shape v s)
     pop deep = record {
-      unseen = popped-keeps shape v s served deep (Aside u n) (others (Interface v Depth) refl) (others (Stack v (depthAt shape v s - 1)) refl) (Unseen shape u n s) (unseen-kept shape u n s) (unseen-none shape u n s (h .state));
+      unseen = popped-keeps shape v s served deep (Aside u (recordSlot v n)) (others (Interface v Depth) refl) (others (Stack v (depthAt shape v s - 1)) refl) (Unseen shape u (recordSlot v n) s) (unseen-kept shape u (recordSlot v n) s) (unseen-none shape u (recordSlot v n) s (h .state));
       mask = λ high below. ap (λ (w : ℕ). recordOf w .«cpu_target_mask»)
           (popped-others shape v s served deep (recordSlot v n) (record-exists shape v n (numbered below)) (record-apart v n (Interface v Depth) refl) (record-apart v n (Stack v (depthAt shape v s - 1)) refl));
     }
@@ -136,9 +134,9 @@ module _ (shape : Shape) (v value : ℕ) (s : List ℕ) (h : Sound shape s) wher
     by-rule Ignored there = resting
     by-rule (Keeps k) there =
         let here = there refl in
-        let slot : Aside u n (Interface v k) = others shape v n s h u exists own seen here (Interface v k) refl in
+        let slot : Aside u (recordSlot v n) (Interface v k) = others shape v n s h u exists own seen here (Interface v k) refl in
         record {
-          unseen = unseen-kept shape u n s (Interface v k) (kept k value) s here slot (unseen-none shape u n s (h .state));
+          unseen = unseen-kept shape u (recordSlot v n) s (Interface v k) (kept k value) s here slot (unseen-none shape u (recordSlot v n) s (h .state));
           mask = λ high below. ap (λ (w : ℕ). recordOf w .«cpu_target_mask»)
               (put-other shape s (recordSlot v n) (Interface v k) (kept k value) (record-exists shape v n (numbered shape v n s h u exists own seen here below)) here (record-apart v n (Interface v k) refl));
         }
