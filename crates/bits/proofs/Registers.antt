@@ -46,7 +46,7 @@ cleared-in-range r h = go (r .inflight)
     go true = record { priority-byte = h .priority-byte; mask-byte = h .mask-byte; owner-byte = tt }
     go false = record { priority-byte = h .priority-byte; mask-byte = h .mask-byte; owner-byte = h .owner-byte }
 
-act-in-range : (register : BitRegister) (x : ℕ) (r : InterruptRecord) → InRange r → InRange (act register x r)
+pub act-in-range : (register : BitRegister) (x : ℕ) (r : InterruptRecord) → InRange r → InRange (act register x r)
 unfolding setEnabled setPending setActive setTrigger
 act-in-range Igroupr x r h = h
 act-in-range Isenabler x r h = record { priority-byte = h .priority-byte; mask-byte = h .mask-byte; owner-byte = h .owner-byte }

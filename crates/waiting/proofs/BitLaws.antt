@@ -46,12 +46,12 @@ complement : everyBelow (λ u. everyBelow (λ b. cond (not (bit u b)) (bit u (ev
 unfolding everyBelow
 complement = refl
 
-bit-complement : (u b : ℕ) → u < 8 → b < 256 → bit u (everyVcpu - b) ≡ not (bit u b)
+pub bit-complement : (u b : ℕ) → u < 8 → b < 256 → bit u (everyVcpu - b) ≡ not (bit u b)
 bit-complement u b low byte =
     alike (not (bit u b)) (bit u (everyVcpu - b))
     (every-at (λ x. cond (not (bit u x)) (bit u (everyVcpu - x)) (not (bit u (everyVcpu - x)))) 256 b (every-at (λ v. everyBelow (λ x. cond (not (bit v x)) (bit v (everyVcpu - x)) (not (bit v (everyVcpu - x)))) 256) 8 u complement low) byte)
 
-both-bits : (u a b : ℕ) → bitAnd a b / 2 ^ u % 2 ≡ bitAnd (a / 2 ^ u % 2) (b / 2 ^ u % 2)
+pub both-bits : (u a b : ℕ) → bitAnd a b / 2 ^ u % 2 ≡ bitAnd (a / 2 ^ u % 2) (b / 2 ^ u % 2)
 both-bits u a b = ap (λ (x : ℕ). x % 2) (and-shr a b u) ∙ and-mod (a / 2 ^ u) (b / 2 ^ u) 1
 
 pub bit-cleared : (u a b : ℕ) → u < 8 → b < 256 → bit u a ≡ true → bit u b ≡ false → bit u (bitAnd a (everyVcpu - b)) ≡ true

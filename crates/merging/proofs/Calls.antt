@@ -1,0 +1,251 @@
+-- Document 02, Six: two writes to the Distributor, by one vCPU at the same place, are one; where records only become readier or only less ready their wake
+-- sets together are its wake set. Assumes nothing.
+use mathlib.Core.Path.{_≡_, refl, sym, ap, subst, _∙_}
+use mathlib.Core.Bool.{Bool, true, false, not, cond, true≢false}
+use mathlib.Core.List.{List}
+use Prim.Native.Nat.{ℕ, _+_, _%_, _^_, _<_}
+use native.Mathlib.Omega.{arith}
+use lib.Bits.{bitOr}
+use lib.Dec.{eqb}
+use borrow.Author.Tests.{ne-eqb}
+use Rattle.register.specs.declared.frame.AccessWidth.{AccessWidth}
+use Rattle.register.specs.declared.frame.AccessWidth.the-variants.{Dword}
+use Rattle.register.specs.declared.frame.Refusal.{Refusal}
+use Rattle.register.specs.declared.frame.Refusal.the-variants.{Vcpu, BrokenState}
+use Rattle.register.specs.declared.ranges.BitRegister.the-variants.{Isenabler}
+use Rattle.register.specs.declared.ranges.ByteRegister.{ByteRegister}
+use Rattle.register.specs.declared.ranges.ByteRegister.the-variants.{Ipriorityr, Itargetsr, Cpendsgir, Spendsgir}
+use Rattle.register.specs.declared.ranges.Class.{Class}
+use Rattle.register.specs.declared.ranges.Class.the-variants.{Ctlr, Typer, Iidr, Sgir, Bits, Bytes, Other}
+use Rattle.register.specs.declared.distributor.Place.{Place}
+use Rattle.register.specs.declared.distributor.DistributorAccess.the-variants.{At}
+use Rattle.register.specs.Distributor.{locateDistributor}
+use Rattle.register.specs.Frame.{bytes}
+use Rattle.state.specs.declared.layout.Shape.{Shape}
+use Rattle.state.specs.declared.lent.Lent.{Lent}
+use Rattle.state.specs.declared.lent.Lent.the-variants as lent
+use Rattle.state.specs.Lent.{validated}
+use Rattle.state.specs.Words.{recordAt, sourcesAt, Exact}
+use Rattle.state.proofs.Validated.{held-validated}
+use Rattle.service.specs.Service.{Sound}
+use Rattle.service.proofs.Soundness.{validated-sound}
+use Rattle.wake.specs.Wake.{wakeSet}
+use Rattle.places.specs.Places.{byteLooksUp, writePlaceLooksUp, writePlace, PlaceWritten}
+use Rattle.places.proofs.Fits.{byte-run}
+use Rattle.places.proofs.Sounds.{place-sound}
+use Rattle.answer.specs.Answer.{Outcome, refused, went, absent}
+use Rattle.answer.proofs.Present.{present}
+use Rattle.distributor_frame.specs.DistributorFrame.{writeV2Distributor}
+use Rattle.lawful.specs.Lawful.{Orderly}
+use Rattle.history.specs.History.{WriteDistributor}
+use Rattle.history.proofs.Calls.{call-valid}
+use Rattle.merging.specs.Merging.{Described, PlacedAs, writeThere, OneState, OneWakeSet, asOne, MayMerge, Supposes, wakesAdd}
+use Rattle.merging.proofs.Bytes.{ByteNeeds}
+use Rattle.merging.proofs.Rings.{listed, both-listed}
+use Rattle.merging.proofs.Rising.{wakes-add}
+use Rattle.merging.proofs.Sources.{Pends}
+use Rattle.merging.proofs.Writes.{mod-as-one, mod-may-merge, ClassNeeds, classRaises, first-lists, second-lists, place-as-one, place-way, place-leaves}
+
+-- the vCPU is looked up for all of the three writes or for none
+looks-alike : (c : Class) (own : Bool) (x y : ℕ) → MayMerge c x y → (writePlaceLooksUp c own x ≡ writePlaceLooksUp c own (asOne c x y)) × (writePlaceLooksUp c own y ≡ writePlaceLooksUp c own (asOne c x y))
+looks-alike Ctlr own x y may = (refl, refl)
+looks-alike Typer own x y may = (refl, refl)
+looks-alike Iidr own x y may = (refl, refl)
+looks-alike Sgir own x y may =
+    let both = both-listed x y (may .first-lists) (may .second-lists) in
+    (simp (listed x (may .first-lists), listed (bitOr x y) both), simp (listed y (may .second-lists), listed (bitOr x y) both))
+looks-alike (Bits register) own x y may = (refl, refl)
+looks-alike (Bytes register) own x y may = (refl, refl)
+looks-alike Other own x y may = (refl, refl)
+
+module _ (v offset : ℕ) (width : AccessWidth) (place : Place) (located : locateDistributor offset width ≡ At place) where
+  abbrev write : ℕ → List ℕ → Outcome
+  write value s = writeThere v offset width value s
+
+  abbrev looks : ℕ → Bool
+  looks x = writePlaceLooksUp (place .class) (place .private) x
+
+  -- what a write comes to: 6, 3, or the place is written
+  pub broken : (value : ℕ) (s : List ℕ) → validated s ≡ lent.Broken → write value s ≡ refused BrokenState s
+  unfolding writeV2Distributor
+  broken value s h = simp h
+
+  pub written : (value : ℕ) (s : List ℕ) (shape : Shape) → validated s ≡ lent.Sound shape → (l : Bool) → looks (value % 2 ^ 32) ≡ l
+      → write value s ≡ cond (absent l shape v) (refused Vcpu s) (went shape 1023 s (writePlace shape v place width (value % 2 ^ 32) s))
+  unfolding writeV2Distributor
+  written value s shape h l e = simp (h, located, e)
+
+  module _ (shape : Shape) (s : List ℕ) (h : validated s ≡ lent.Sound shape) where
+    pub place-at : (x : ℕ) (l : Bool) → looks x ≡ l → absent l shape v ≡ false → PlaceWritten shape v place width x s
+    place-at x l e there =
+        record { state = validated-sound shape s h .state; located = record { offset = offset; at = located }; looked = λ q. present l shape v there (sym e ∙ q) }
+
+    -- the words after it are a state of the same shape
+    pub after-valid : (value : ℕ) (r : List ℕ) → write value s .state ≡ r → validated r ≡ lent.Sound shape
+    after-valid value r e = subst (λ (t : List ℕ). validated t ≡ lent.Sound shape) e (call-valid shape s h (WriteDistributor v offset width value) refl)
+
+  module _ (a b : ℕ) (may : MayMerge (place .class) a b) where
+    abbrev x : ℕ
+    x = a % 2 ^ 32
+
+    abbrev y : ℕ
+    y = b % 2 ^ 32
+
+    abbrev c : ℕ
+    c = asOne (place .class) a b
+
+    -- of the low 32 bits
+    low-may : MayMerge (place .class) x y
+    low-may = mod-may-merge (place .class) a b may
+
+    low-one : c % 2 ^ 32 ≡ asOne (place .class) x y
+    low-one = mod-as-one (place .class) a b
+
+    first-looks : looks x ≡ looks (c % 2 ^ 32)
+    first-looks = looks-alike (place .class) (place .private) x y low-may .0 ∙ ap looks (sym low-one)
+
+    second-looks : looks y ≡ looks (c % 2 ^ 32)
+    second-looks = looks-alike (place .class) (place .private) x y low-may .1 ∙ ap looks (sym low-one)
+
+    -- refused, all three
+    module _ (refusal : Refusal) (s : List ℕ) (ea : write a s ≡ refused refusal s) (eb : write b s ≡ refused refusal s) (ec : write c s ≡ refused refusal s) where
+      refused-state : OneState write a b c s
+      refused-state = record {
+        state = ap (λ (o : Outcome). write b (o .state) .state) ea ∙ ap (λ (o : Outcome). o .state) (eb ∙ sym ec);
+        first-refusal = ap (λ (o : Outcome). o .refusal) (ea ∙ sym ec);
+        second-refusal = ap (λ (o : Outcome). write b (o .state) .refusal) ea ∙ ap (λ (o : Outcome). o .refusal) (eb ∙ sym ec);
+      }
+
+      refused-wakes : OneWakeSet write a b c s
+      refused-wakes =
+          ap (λ (o : Outcome). bitOr (o .wake) (write b (o .state) .wake)) ea ∙ ap (λ (o : Outcome). bitOr 0 (o .wake)) eb ∙ sym (ap (λ (o : Outcome). o .wake) ec)
+
+    -- accepted, all three
+    module _ (shape : Shape) (s : List ℕ) (h : validated s ≡ lent.Sound shape) (there : absent (looks (c % 2 ^ 32)) shape v ≡ false) where
+      abbrev first : List ℕ
+      first = writePlace shape v place width x s
+
+      abbrev second : List ℕ
+      second = writePlace shape v place width y first
+
+      wrote : (value : ℕ) (r : List ℕ) → validated r ≡ lent.Sound shape → looks (value % 2 ^ 32) ≡ looks (c % 2 ^ 32) → write value r ≡ went shape 1023 r (writePlace shape v place width (value % 2 ^ 32) r)
+      wrote value r k e = written value r shape k (looks (c % 2 ^ 32)) e ∙ simp there
+
+      first-valid : validated first ≡ lent.Sound shape
+      first-valid = after-valid shape s h a first (ap (λ (o : Outcome). o .state) (wrote a s h first-looks))
+
+      at-first : PlaceWritten shape v place width x s
+      at-first = place-at shape s h x (looks (c % 2 ^ 32)) first-looks there
+
+      at-second : PlaceWritten shape v place width y first
+      at-second = place-at shape first first-valid y (looks (c % 2 ^ 32)) second-looks there
+
+      module _ (need : ClassNeeds shape v (place .class) (place .first .0) width s) where
+        one : second ≡ writePlace shape v place width (c % 2 ^ 32) s
+        one = place-as-one shape v place width x s at-first y low-may need ∙ ap (λ (z : ℕ). writePlace shape v place width z s) (sym low-one)
+
+        accepted-state : OneState write a b c s
+        accepted-state = record {
+          state =
+              ap (λ (o : Outcome). write b (o .state) .state) (wrote a s h first-looks) ∙ ap (λ (o : Outcome). o .state) (wrote b first first-valid second-looks)
+              ∙ one ∙ sym (ap (λ (o : Outcome). o .state) (wrote c s h refl));
+          first-refusal = ap (λ (o : Outcome). o .refusal) (wrote a s h first-looks) ∙ sym (ap (λ (o : Outcome). o .refusal) (wrote c s h refl));
+          second-refusal =
+              ap (λ (o : Outcome). write b (o .state) .refusal) (wrote a s h first-looks) ∙ ap (λ (o : Outcome). o .refusal) (wrote b first first-valid second-looks)
+              ∙ sym (ap (λ (o : Outcome). o .refusal) (wrote c s h refl));
+        }
+
+        accepted-wakes : wakesAdd (place .class) ≡ true → Exact shape s → OneWakeSet write a b c s
+        accepted-wakes adds exact =
+            let sound : Sound shape first = validated-sound shape first first-valid in
+            let up = place-way shape v place width x s at-first adds (first-lists (place .class) x y low-may) need exact in
+            let on = place-way shape v place width y first at-second adds (second-lists (place .class) x y low-may) (place-leaves shape v place width x s at-first need) (up .1 .1) in
+            ap (λ (o : Outcome). bitOr (o .wake) (write b (o .state) .wake)) (wrote a s h first-looks)
+            ∙ ap (λ (o : Outcome). bitOr (wakeSet shape s first) (o .wake)) (wrote b first first-valid second-looks)
+            ∙ wakes-add shape s first second (validated-sound shape s h) sound (place-sound shape v place width y first sound at-second) exact (up .1 .1) (on .1 .1) (classRaises (place .class)) (up .0) (on .0)
+            ∙ ap (wakeSet shape s) one
+            ∙ sym (ap (λ (o : Outcome). o .wake) (wrote c s h refl))
+
+    module _ (s : List ℕ) where
+      abbrev Needed : Shape → Type 0
+      Needed shape = PlaceWritten shape v place width x s → ClassNeeds shape v (place .class) (place .first .0) width s
+
+      pub state-as-one : ((shape : Shape) → validated s ≡ lent.Sound shape → Needed shape) → OneState write a b c s
+      state-as-one need = go (validated s) refl
+        where
+          go : (held : Lent) → validated s ≡ held → OneState write a b c s
+          go lent.Broken h = refused-state BrokenState s (broken a s h) (broken b s h) (broken c s h)
+          go (lent.Sound shape) h = by (absent (looks (c % 2 ^ 32)) shape v) refl
+            where
+              by : (q : Bool) → absent (looks (c % 2 ^ 32)) shape v ≡ q → OneState write a b c s
+              by true e =
+                  refused-state Vcpu s (written a s shape h (looks (c % 2 ^ 32)) first-looks ∙ simp e) (written b s shape h (looks (c % 2 ^ 32)) second-looks ∙ simp e) (written c s shape h (looks (c % 2 ^ 32)) refl ∙ simp e)
+              by false e = accepted-state shape s h e (need shape h (at-first shape s h e))
+
+      pub wakes-as-one : wakesAdd (place .class) ≡ true → (shape : Shape) → validated s ≡ lent.Sound shape → Exact shape s → Needed shape → OneWakeSet write a b c s
+      wakes-as-one adds shape h exact need = by (absent (looks (c % 2 ^ 32)) shape v) refl
+        where
+          by : (q : Bool) → absent (looks (c % 2 ^ 32)) shape v ≡ q → OneWakeSet write a b c s
+          by true e =
+              refused-wakes Vcpu s (written a s shape h (looks (c % 2 ^ 32)) first-looks ∙ simp e) (written b s shape h (looks (c % 2 ^ 32)) second-looks ∙ simp e) (written c s shape h (looks (c % 2 ^ 32)) refl ∙ simp e)
+          by false e = accepted-wakes shape s h e (need (at-first shape s h e)) adds exact
+
+-- what CPENDSGIR needs is demand 3's: an SGI is pending where a source is set
+module _ (shape : Shape) (v : ℕ) (place : Place) (w : AccessWidth) (x : ℕ) (s : List ℕ) (at : PlaceWritten shape v place w x s) where
+  byte-needed : (register : ByteRegister) → place .class ≡ Bytes register → Orderly shape s → (i : ℕ) → i < bytes w → ByteNeeds shape register v (place .first .0 + i) s
+  byte-needed Ipriorityr e orderly i h = tt
+  byte-needed Itargetsr e orderly i h = tt
+  byte-needed Cpendsgir e orderly i h =
+      let there = byte-run shape v place w s (at .state) (at .located) Cpendsgir e (λ q. at .looked (simp e q)) .there i h in
+      let n = place .first .0 + i in
+      λ some. orderly .sourced v n (there .0) (there .1) ∙ ap not (ne-eqb (sourcesAt shape v n s) 0 some)
+  byte-needed Spendsgir e orderly i h = tt
+
+  class-needed : (c : Class) → place .class ≡ c → Orderly shape s → ClassNeeds shape v c (place .first .0) w s
+  class-needed Ctlr e orderly = tt
+  class-needed Typer e orderly = tt
+  class-needed Iidr e orderly = tt
+  class-needed Sgir e orderly = tt
+  class-needed (Bits register) e orderly = tt
+  class-needed (Bytes register) e orderly = byte-needed register e orderly
+  class-needed Other e orderly = tt
+
+  -- where nothing is supposed of the words, nothing is needed
+  supposed : (c : Class) → place .class ≡ c → Supposes c s → validated s ≡ lent.Sound shape → ClassNeeds shape v c (place .first .0) w s
+  supposed Ctlr e d h = tt
+  supposed Typer e d h = tt
+  supposed Iidr e d h = tt
+  supposed Sgir e d h = tt
+  supposed (Bits register) e d h = tt
+  supposed (Bytes Ipriorityr) e d h = λ i b. tt
+  supposed (Bytes Itargetsr) e d h = λ i b. tt
+  supposed (Bytes Cpendsgir) e d h =
+      let both : lent.Sound shape ≡ lent.Sound (d .shape) = sym h ∙ held-validated s (d .shape) (d .holds) in
+      let same : shape ≡ d .shape = cc in
+      byte-needed Cpendsgir e (subst (λ (k : Shape). Orderly k s) (sym same) (d .orderly))
+  supposed (Bytes Spendsgir) e d h = λ i b. tt
+  supposed Other e d h = tt
+
+-- any two writes by one vCPU at one place are one write; in any words at all, and at CPENDSGIR from any state that demand 3 describes
+pub two-writes-are-one : (v offset : ℕ) (width : AccessWidth) (class : Class) → PlacedAs offset width class → (a b : ℕ) → MayMerge class a b → (s : List ℕ) → Supposes class s
+    → OneState (writeThere v offset width) a b (asOne class a b) s
+two-writes-are-one v offset width class at a b may s d =
+    subst (λ (k : Class). MayMerge k a b → Supposes k s → OneState (writeThere v offset width) a b (asOne k a b) s) (at .is)
+    (λ m e. state-as-one v offset width (at .place) (at .located) a b m s (λ shape h written. supposed shape v (at .place) width (a % 2 ^ 32) s written (at .place .class) refl e h)) may d
+
+-- and their wake sets together are its wake set, from any state that demand 3 describes, but where what is written replaces priority, target or CTLR
+pub wake-sets-add-up : (v offset : ℕ) (width : AccessWidth) (class : Class) → PlacedAs offset width class → wakesAdd class ≡ true → (a b : ℕ) → MayMerge class a b → (s : List ℕ) → Described s
+    → OneWakeSet (writeThere v offset width) a b (asOne class a b) s
+wake-sets-add-up v offset width class at adds a b may s d =
+    subst (λ (k : Class). wakesAdd k ≡ true → MayMerge k a b → OneWakeSet (writeThere v offset width) a b (asOne k a b) s) (at .is)
+    (λ q m. wakes-as-one v offset width (at .place) (at .located) a b m s q (d .shape) (held-validated s (d .shape) (d .holds)) (d .orderly .summary)
+    (λ written. class-needed (d .shape) v (at .place) width (a % 2 ^ 32) s written (at .place .class) refl (d .orderly))) adds may
+
+-- "set-enable with a and then with b leaves the state of one write with the bits of both, and the two wake sets together are that write's wake set"
+pub set-enable-adds-up : (v offset a b : ℕ) → PlacedAs offset Dword (Bits Isenabler) → (s : List ℕ) → Described s
+    → OneState (writeThere v offset Dword) a b (bitOr a b) s × OneWakeSet (writeThere v offset Dword) a b (bitOr a b) s
+set-enable-adds-up v offset a b at s d = (two-writes-are-one v offset Dword (Bits Isenabler) at a b tt s tt, wake-sets-add-up v offset Dword (Bits Isenabler) at refl a b tt s d)
+
+-- "of two ITARGETSR writes only the later counts for the state": in any words at all
+pub later-target-counts : (v offset a b : ℕ) → PlacedAs offset Dword (Bytes Itargetsr) → (s : List ℕ) → OneState (writeThere v offset Dword) a b b s
+later-target-counts v offset a b at s = two-writes-are-one v offset Dword (Bytes Itargetsr) at a b tt s tt

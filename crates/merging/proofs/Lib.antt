@@ -1,0 +1,12 @@
+-- Laws of the steps that a write is made of, once for bit registers and once for byte arrays; then of writes, and of calls.
+pub mod Own
+pub mod Joined
+pub mod Bits
+pub mod Sources
+pub mod Bytes
+pub mod Rising
+pub mod Ways
+pub mod Rings
+pub mod Writes
+pub mod Calls
+pub mod Order
