@@ -10,3 +10,5 @@ pub mod Rings
 pub mod Writes
 pub mod Calls
 pub mod Order
+pub mod Where
+pub mod Needed

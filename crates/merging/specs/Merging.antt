@@ -5,7 +5,7 @@ use mathlib.Core.Bool.{Bool, true, false, cond}
 use mathlib.Core.List.{List}
 use mathlib.Core.Logic.{_⊎_}
 use Prim.Native.Nat.{ℕ, _+_, _/_, _%_, _^_, _≤_}
-use lib.Bits.{bitOr}
+use lib.Bits.{bitAnd, bitOr}
 use Rattle.register.specs.declared.frame.AccessWidth.{AccessWidth}
 use Rattle.register.specs.declared.ranges.BitRegister.{BitRegister}
 use Rattle.register.specs.declared.ranges.ByteRegister.{ByteRegister}

@@ -55,6 +55,7 @@ pub struct Best {
     pub id: u64,
 }
 
+#[derive(Clone)]
 pub struct Gic {
     pub count: u64,
     pub limit: u64,

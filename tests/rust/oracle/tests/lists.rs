@@ -1,30 +1,8 @@
-//! The fixed lists come out as they stand: each row is a line, ": " and its whole answer, as in document 01.
+//! The fixed lists come out as they stand.
+mod rows;
+
 use oracle::lines;
-use std::{
-    fs,
-    path::{Path, PathBuf},
-};
-
-fn lists() -> PathBuf {
-    Path::new(env!("CARGO_MANIFEST_DIR")).join("../../lists")
-}
-
-/// The lines and the answers of a list.
-fn rows(name: &str) -> Vec<(Vec<u8>, String)> {
-    let text = fs::read(lists().join(name)).unwrap();
-    let text = text.strip_suffix(b"\n").expect("a last newline");
-    let row = |row: &[u8]| {
-        let at = row
-            .windows(2)
-            .rposition(|two| two == b": ")
-            .expect("an answer");
-        (
-            row[..at].to_vec(),
-            String::from_utf8(row[at + 2..].to_vec()).unwrap(),
-        )
-    };
-    text.split(|&byte| byte == b'\n').map(row).collect()
-}
+use rows::rows;
 
 fn replay(name: &str) {
     let rows = rows(name);
@@ -68,6 +46,11 @@ fn lines_of_every_form_and_of_none() {
 #[test]
 fn differences() {
     replay("differences.list");
+}
+
+#[test]
+fn merging() {
+    replay("merging.list");
 }
 
 #[test]
