@@ -5,7 +5,7 @@ use mathlib.Core.Bool.{Bool, true, false, not, cond, true≢false}
 use mathlib.Core.List.{List}
 use Prim.Native.Nat.{ℕ, _+_, _%_, _^_, _<_}
 use native.Mathlib.Omega.{arith}
-use lib.Bits.{bitOr}
+use lib.Bits.{bitOr, or-zero-r}
 use lib.Dec.{eqb}
 use borrow.Author.Tests.{ne-eqb}
 use Rattle.register.specs.declared.frame.AccessWidth.{AccessWidth}
@@ -32,28 +32,26 @@ use Rattle.service.proofs.Soundness.{validated-sound}
 use Rattle.wake.specs.Wake.{wakeSet}
 use Rattle.places.specs.Places.{byteLooksUp, writePlaceLooksUp, writePlace, PlaceWritten}
 use Rattle.places.proofs.Fits.{byte-run}
-use Rattle.places.proofs.Sounds.{place-sound}
+use Rattle.places.proofs.Sounds.{place-depths, place-sound}
 use Rattle.answer.specs.Answer.{Outcome, refused, went, absent}
 use Rattle.answer.proofs.Present.{present}
 use Rattle.distributor_frame.specs.DistributorFrame.{writeV2Distributor}
 use Rattle.lawful.specs.Lawful.{Orderly}
 use Rattle.history.specs.History.{WriteDistributor}
 use Rattle.history.proofs.Calls.{call-valid}
-use Rattle.merging.specs.Merging.{Described, PlacedAs, writeThere, OneState, OneWakeSet, asOne, MayMerge, Supposes, wakesAdd}
+use Rattle.merging.specs.Merging.{Described, PlacedAs, writeThere, OneState, OneWakeSet, WakesNoOther, asOne, MayMerge, Supposes, wakesAdd}
 use Rattle.merging.proofs.Bytes.{ByteNeeds}
-use Rattle.merging.proofs.Rings.{listed, both-listed}
-use Rattle.merging.proofs.Rising.{wakes-add}
+use Rattle.merging.proofs.Rings.{first-sends, second-sends}
+use Rattle.merging.proofs.Rising.{wakes-within, wakes-add}
 use Rattle.merging.proofs.Sources.{Pends}
-use Rattle.merging.proofs.Writes.{mod-as-one, mod-may-merge, ClassNeeds, classRaises, first-lists, second-lists, place-as-one, place-way, place-leaves}
+use Rattle.merging.proofs.Writes.{mod-as-one, mod-may-merge, ClassNeeds, classRaises, place-as-one, place-way, place-leaves}
 
 -- the vCPU is looked up for all of the three writes or for none
 looks-alike : (c : Class) (own : Bool) (x y : ℕ) → MayMerge c x y → (writePlaceLooksUp c own x ≡ writePlaceLooksUp c own (asOne c x y)) × (writePlaceLooksUp c own y ≡ writePlaceLooksUp c own (asOne c x y))
 looks-alike Ctlr own x y may = (refl, refl)
 looks-alike Typer own x y may = (refl, refl)
 looks-alike Iidr own x y may = (refl, refl)
-looks-alike Sgir own x y may =
-    let both = both-listed x y (may .first-lists) (may .second-lists) in
-    (simp (listed x (may .first-lists), listed (bitOr x y) both), simp (listed y (may .second-lists), listed (bitOr x y) both))
+looks-alike Sgir own x y may = (first-sends x y may, second-sends x y may)
 looks-alike (Bits register) own x y may = (refl, refl)
 looks-alike (Bytes register) own x y may = (refl, refl)
 looks-alike Other own x y may = (refl, refl)
@@ -120,6 +118,12 @@ module _ (v offset : ℕ) (width : AccessWidth) (place : Place) (located : locat
       refused-wakes =
           ap (λ (o : Outcome). bitOr (o .wake) (write b (o .state) .wake)) ea ∙ ap (λ (o : Outcome). bitOr 0 (o .wake)) eb ∙ sym (ap (λ (o : Outcome). o .wake) ec)
 
+      refused-no-other : WakesNoOther write a b c s
+      refused-no-other = ap (bitOr both) (ap (λ (o : Outcome). o .wake) ec) ∙ or-zero-r both
+        where
+          both : ℕ
+          both = bitOr (write a s .wake) (write b (write a s .state) .wake)
+
     -- accepted, all three
     module _ (shape : Shape) (s : List ℕ) (h : validated s ≡ lent.Sound shape) (there : absent (looks (c % 2 ^ 32)) shape v ≡ false) where
       abbrev first : List ℕ
@@ -155,40 +159,59 @@ module _ (v offset : ℕ) (width : AccessWidth) (place : Place) (located : locat
               ∙ sym (ap (λ (o : Outcome). o .refusal) (wrote c s h refl));
         }
 
+        both-wake : bitOr (write a s .wake) (write b (write a s .state) .wake) ≡ bitOr (wakeSet shape s first) (wakeSet shape first second)
+        both-wake =
+            ap (λ (o : Outcome). bitOr (o .wake) (write b (o .state) .wake)) (wrote a s h first-looks)
+            ∙ ap (λ (o : Outcome). bitOr (wakeSet shape s first) (o .wake)) (wrote b first first-valid second-looks)
+
+        one-wakes : write c s .wake ≡ wakeSet shape s second
+        one-wakes = ap (λ (o : Outcome). o .wake) (wrote c s h refl) ∙ ap (wakeSet shape s) (sym one)
+
+        accepted-no-other : WakesNoOther write a b c s
+        accepted-no-other =
+            (λ i. bitOr (both-wake i) (one-wakes i))
+            ∙ wakes-within shape (validated-sound shape s h .state .limits) s first second (place-depths shape v place width y first at-second .depth) ∙ sym both-wake
+
         accepted-wakes : wakesAdd (place .class) ≡ true → Exact shape s → OneWakeSet write a b c s
         accepted-wakes adds exact =
             let sound : Sound shape first = validated-sound shape first first-valid in
-            let up = place-way shape v place width x s at-first adds (first-lists (place .class) x y low-may) need exact in
-            let on = place-way shape v place width y first at-second adds (second-lists (place .class) x y low-may) (place-leaves shape v place width x s at-first need) (up .1 .1) in
-            ap (λ (o : Outcome). bitOr (o .wake) (write b (o .state) .wake)) (wrote a s h first-looks)
-            ∙ ap (λ (o : Outcome). bitOr (wakeSet shape s first) (o .wake)) (wrote b first first-valid second-looks)
+            let up = place-way shape v place width x s at-first adds need exact in
+            let on = place-way shape v place width y first at-second adds (place-leaves shape v place width x s at-first need) (up .1 .1) in
+            both-wake
             ∙ wakes-add shape s first second (validated-sound shape s h) sound (place-sound shape v place width y first sound at-second) exact (up .1 .1) (on .1 .1) (classRaises (place .class)) (up .0) (on .0)
-            ∙ ap (wakeSet shape s) one
-            ∙ sym (ap (λ (o : Outcome). o .wake) (wrote c s h refl))
+            ∙ sym one-wakes
 
     module _ (s : List ℕ) where
       abbrev Needed : Shape → Type 0
       Needed shape = PlaceWritten shape v place width x s → ClassNeeds shape v (place .class) (place .first .0) width s
 
+      -- what holds where all three are refused, and where they are accepted
+      module _ (P : Type 0) (refuses : (r : Refusal) → write a s ≡ refused r s → write b s ≡ refused r s → write c s ≡ refused r s → P) where
+        by-look-up : (shape : Shape) → validated s ≡ lent.Sound shape → Needed shape
+            → ((there : absent (looks (c % 2 ^ 32)) shape v ≡ false) → ClassNeeds shape v (place .class) (place .first .0) width s → P) → P
+        by-look-up shape h need accepts = by (absent (looks (c % 2 ^ 32)) shape v) refl
+          where
+            by : (q : Bool) → absent (looks (c % 2 ^ 32)) shape v ≡ q → P
+            by true e =
+                refuses Vcpu (written a s shape h (looks (c % 2 ^ 32)) first-looks ∙ simp e) (written b s shape h (looks (c % 2 ^ 32)) second-looks ∙ simp e) (written c s shape h (looks (c % 2 ^ 32)) refl ∙ simp e)
+            by false e = accepts e (need (at-first shape s h e))
+
+        in-any-words : ((shape : Shape) → validated s ≡ lent.Sound shape → Needed shape)
+            → ((shape : Shape) (h : validated s ≡ lent.Sound shape) (there : absent (looks (c % 2 ^ 32)) shape v ≡ false) → ClassNeeds shape v (place .class) (place .first .0) width s → P) → P
+        in-any-words need accepts = go (validated s) refl
+          where
+            go : (held : Lent) → validated s ≡ held → P
+            go lent.Broken h = refuses BrokenState (broken a s h) (broken b s h) (broken c s h)
+            go (lent.Sound shape) h = by-look-up shape h (need shape h) (accepts shape h)
+
       pub state-as-one : ((shape : Shape) → validated s ≡ lent.Sound shape → Needed shape) → OneState write a b c s
-      state-as-one need = go (validated s) refl
-        where
-          go : (held : Lent) → validated s ≡ held → OneState write a b c s
-          go lent.Broken h = refused-state BrokenState s (broken a s h) (broken b s h) (broken c s h)
-          go (lent.Sound shape) h = by (absent (looks (c % 2 ^ 32)) shape v) refl
-            where
-              by : (q : Bool) → absent (looks (c % 2 ^ 32)) shape v ≡ q → OneState write a b c s
-              by true e =
-                  refused-state Vcpu s (written a s shape h (looks (c % 2 ^ 32)) first-looks ∙ simp e) (written b s shape h (looks (c % 2 ^ 32)) second-looks ∙ simp e) (written c s shape h (looks (c % 2 ^ 32)) refl ∙ simp e)
-              by false e = accepted-state shape s h e (need shape h (at-first shape s h e))
+      state-as-one need = in-any-words (OneState write a b c s) (λ r. refused-state r s) need (λ shape h there. accepted-state shape s h there)
+
+      pub no-other-as-one : ((shape : Shape) → validated s ≡ lent.Sound shape → Needed shape) → WakesNoOther write a b c s
+      no-other-as-one need = in-any-words (WakesNoOther write a b c s) (λ r. refused-no-other r s) need (λ shape h there. accepted-no-other shape s h there)
 
       pub wakes-as-one : wakesAdd (place .class) ≡ true → (shape : Shape) → validated s ≡ lent.Sound shape → Exact shape s → Needed shape → OneWakeSet write a b c s
-      wakes-as-one adds shape h exact need = by (absent (looks (c % 2 ^ 32)) shape v) refl
-        where
-          by : (q : Bool) → absent (looks (c % 2 ^ 32)) shape v ≡ q → OneWakeSet write a b c s
-          by true e =
-              refused-wakes Vcpu s (written a s shape h (looks (c % 2 ^ 32)) first-looks ∙ simp e) (written b s shape h (looks (c % 2 ^ 32)) second-looks ∙ simp e) (written c s shape h (looks (c % 2 ^ 32)) refl ∙ simp e)
-          by false e = accepted-wakes shape s h e (need (at-first shape s h e)) adds exact
+      wakes-as-one adds shape h exact need = by-look-up (OneWakeSet write a b c s) (λ r. refused-wakes r s) shape h need (λ there needed. accepted-wakes shape s h there needed adds exact)
 
 -- what CPENDSGIR needs is demand 3's: an SGI is pending where a source is set
 module _ (shape : Shape) (v : ℕ) (place : Place) (w : AccessWidth) (x : ℕ) (s : List ℕ) (at : PlaceWritten shape v place w x s) where
@@ -232,6 +255,13 @@ pub two-writes-are-one : (v offset : ℕ) (width : AccessWidth) (class : Class) 
 two-writes-are-one v offset width class at a b may s d =
     subst (λ (k : Class). MayMerge k a b → Supposes k s → OneState (writeThere v offset width) a b (asOne k a b) s) (at .is)
     (λ m e. state-as-one v offset width (at .place) (at .located) a b m s (λ shape h written. supposed shape v (at .place) width (a % 2 ^ 32) s written (at .place .class) refl e h)) may d
+
+-- it wakes nobody whom neither of the two wakes
+pub one-write-wakes-no-other : (v offset : ℕ) (width : AccessWidth) (class : Class) → PlacedAs offset width class → (a b : ℕ) → MayMerge class a b → (s : List ℕ) → Supposes class s
+    → WakesNoOther (writeThere v offset width) a b (asOne class a b) s
+one-write-wakes-no-other v offset width class at a b may s d =
+    subst (λ (k : Class). MayMerge k a b → Supposes k s → WakesNoOther (writeThere v offset width) a b (asOne k a b) s) (at .is)
+    (λ m e. no-other-as-one v offset width (at .place) (at .located) a b m s (λ shape h written. supposed shape v (at .place) width (a % 2 ^ 32) s written (at .place .class) refl e h)) may d
 
 -- and their wake sets together are its wake set, from any state that demand 3 describes, but where what is written replaces priority, target or CTLR
 pub wake-sets-add-up : (v offset : ℕ) (width : AccessWidth) (class : Class) → PlacedAs offset width class → wakesAdd class ≡ true → (a b : ℕ) → MayMerge class a b → (s : List ℕ) → Described s

@@ -1,5 +1,5 @@
--- Two rings of one SGI to lists of vCPUs: a ring is a byte of SPENDSGIR with the sender's bit at each vCPU of the list, and a bit set twice is set once. So
--- they are one ring to both lists. Assumes nothing.
+-- Two rings of one SGI: a ring is a byte of SPENDSGIR with the sender's bit at each vCPU that it is sent to, and a bit set twice is set once. So they are one
+-- ring to whomever one of them is sent to; with the same filter that is the ring whose value has the bits of both. Assumes nothing.
 use mathlib.Core.Path.{_≡_, refl, sym, ap, _∙_}
 use mathlib.Core.Bool.{Bool, true, false, not, cond, _||_, true≢false}
 use mathlib.Core.List.{List}
@@ -12,16 +12,17 @@ use lib.Pow.{pow-lt, pow-pos}
 use borrow.Author.Tests.{ne-eqb}
 use Rattle.interrupt.specs.Record.{setPending}
 use Rattle.state.specs.declared.layout.Shape.{Shape}
-use Rattle.state.specs.Layout.{Sources, Exists, Limits, Room}
+use Rattle.state.specs.Layout.{Slot, Sources, Exists, Limits, Room}
 use Rattle.state.specs.Words.{sourcesAt, changed, withSources}
 use Rattle.state.proofs.Accessors.{sources-same}
 use Rattle.state.proofs.Numbers.{Of, one-vcpu}
 use Rattle.state.proofs.Ready.{Summed}
-use Rattle.state.proofs.Steps.{Agree}
 use Rattle.sgi.specs.declared.SgiTarget.{SgiTarget}
-use Rattle.sgi.specs.declared.SgiTarget.the-variants.{Mask}
+use Rattle.sgi.specs.declared.SgiTarget.the-variants.{Mask, AllExceptSelf, SelfOnly, Nobody}
 use Rattle.sgi.specs.Sgi.{writeSources, pendSgi, sgiTarget, includes, sentTo, sendSgi}
-use Rattle.sgi.proofs.Rings.{sgi-exists, joined-some, ring-local}
+use Rattle.sgi.proofs.Rings.{sgi-exists, joined-some}
+use Rattle.places.specs.Places.{names, sends}
+use Rattle.merging.specs.Merging.{SameRing}
 use Rattle.merging.proofs.Joined.{flag-or, or-field}
 use Rattle.merging.proofs.Own.{Own, put-own, then-own, if-own, changed-own, runs-merge}
 use Rattle.merging.proofs.Rising.{Way, Rising, rising-none, run-way}
@@ -66,53 +67,94 @@ module _ (shape : Shape) (v source n : ℕ) (few : source < 8) (l : Limits shape
   ring-way : (s : List ℕ) → Summed shape s → Rising shape s (pendSgi shape v source n s) × Summed shape (pendSgi shape v source n s)
   ring-way s h = rw (ring-sets s (h .0)) (source-way shape v n l e true (2 ^ source) (pow-lt few) s h (λ q. absurd (true≢false q)))
 
--- to a list of vCPUs
+-- to several vCPUs
 module _ (shape : Shape) (source n : ℕ) (few : source < 8) (sgi : n < 16) (s : List ℕ) (l : Limits shape) where
-  sent-own : (x u : ℕ) → u < shape .count → Own shape (Of u n) (sentTo shape (Mask x) source n u)
-  sent-own x u b = if-own shape (Of u n) (includes (Mask x) source u) (λ p. ring-own shape u source n few l (b, sgi))
+  sent-own : (to : SgiTarget) (u : ℕ) → u < shape .count → Own shape (Of u n) (sentTo shape to source n u)
+  sent-own to u b = if-own shape (Of u n) (includes to source u) (λ p. ring-own shape u source n few l (b, sgi))
 
-  vcpus-apart : (i j : ℕ) (t : _) → Of i n t → Of j n t → i ≡ j
+  vcpus-apart : (i j : ℕ) (t : Slot) → Of i n t → Of j n t → i ≡ j
   vcpus-apart i j t a b = one-vcpu i j n t (omega arith) a b
 
-  sent-twice : (x y u : ℕ) → u < shape .count → (r : List ℕ) → Room shape r
-      → sentTo shape (Mask y) source n u (sentTo shape (Mask x) source n u r) ≡ sentTo shape (Mask (bitOr x y)) source n u r
-  sent-twice x y u b r h = go (includes (Mask x) source u) (includes (Mask y) source u) ∙ ap (λ (q : Bool). cond q (ring r) r) (sym (flag-or u x y))
-    where
-      ring : List ℕ → List ℕ
-      ring q = pendSgi shape u source n q
+  module _ (first second one : SgiTarget) (either : (u : ℕ) → includes one source u ≡ (includes first source u || includes second source u)) where
+    sent-twice : (u : ℕ) → u < shape .count → (r : List ℕ) → Room shape r → sentTo shape second source n u (sentTo shape first source n u r) ≡ sentTo shape one source n u r
+    sent-twice u b r h = go (includes first source u) (includes second source u) ∙ ap (λ (q : Bool). cond q (ring r) r) (sym (either u))
+      where
+        ring : List ℕ → List ℕ
+        ring q = pendSgi shape u source n q
 
-      go : (p q : Bool) → cond q (ring (cond p (ring r) r)) (cond p (ring r) r) ≡ cond (p || q) (ring r) r
-      go true true = ring-twice shape u source n few l (b, sgi) r h
-      go true false = refl
-      go false true = refl
-      go false false = refl
+        go : (p q : Bool) → cond q (ring (cond p (ring r) r)) (cond p (ring r) r) ≡ cond (p || q) (ring r) r
+        go true true = ring-twice shape u source n few l (b, sgi) r h
+        go true false = refl
+        go false true = refl
+        go false false = refl
 
-  pub sent-as-one : (x y : ℕ) → Room shape s → sendSgi shape source n (Mask y) (sendSgi shape source n (Mask x) s) ≡ sendSgi shape source n (Mask (bitOr x y)) s
+    pub sent-as-one : Room shape s → sendSgi shape source n second (sendSgi shape source n first s) ≡ sendSgi shape source n one s
+    unfolding sendSgi
+    sent-as-one h =
+        runs-merge shape (λ u. Of u n) vcpus-apart (sentTo shape first source n) (sentTo shape second source n) (sentTo shape one source n) s h (shape .count)
+        (sent-own first) (sent-own second) (sent-own one) (λ u b r k agree. sent-twice u b r k)
+
+  pub sent-way : (to : SgiTarget) → Summed shape s → Rising shape s (sendSgi shape source n to s) × Summed shape (sendSgi shape source n to s)
   unfolding sendSgi
-  sent-as-one x y h =
-      runs-merge shape (λ u. Of u n) vcpus-apart (sentTo shape (Mask x) source n) (sentTo shape (Mask y) source n) (sentTo shape (Mask (bitOr x y)) source n) s h (shape .count)
-      (sent-own x) (sent-own y) (sent-own (bitOr x y)) (λ u b r k agree. sent-twice x y u b r k)
-
-  pub sent-way : (x : ℕ) → Summed shape s → Rising shape s (sendSgi shape source n (Mask x) s) × Summed shape (sendSgi shape source n (Mask x) s)
-  unfolding sendSgi
-  sent-way x h =
-      run-way true shape (λ u. Of u n) vcpus-apart (sentTo shape (Mask x) source n) s h (shape .count)
-      (λ u b. sent-own x u b .local) (λ u b r k agree. step u b r k)
+  sent-way to h =
+      run-way true shape (λ u. Of u n) vcpus-apart (sentTo shape to source n) s h (shape .count) (λ u b. sent-own to u b .local) (λ u b r k agree. step u b r k)
     where
-      step : (u : ℕ) → u < shape .count → (r : List ℕ) → Summed shape r → Rising shape r (sentTo shape (Mask x) source n u r) × Summed shape (sentTo shape (Mask x) source n u r)
-      step u b r k = go (includes (Mask x) source u)
+      step : (u : ℕ) → u < shape .count → (r : List ℕ) → Summed shape r → Rising shape r (sentTo shape to source n u r) × Summed shape (sentTo shape to source n u r)
+      step u b r k = go (includes to source u)
         where
           go : (q : Bool) → Rising shape r (cond q (pendSgi shape u source n r) r) × Summed shape (cond q (pendSgi shape u source n r) r)
           go true = ring-way shape u source n few l (b, sgi) r k
           go false = (rising-none shape r, k)
 
--- filter 0, and of two such the value with the bits of both
-pub listed : (value : ℕ) → value / 2 ^ 24 % 4 ≡ 0 → sgiTarget value ≡ Mask (value / 2 ^ 16 % 256)
-unfolding sgiTarget
-listed value e = rw e
+-- what the value with the bits of both says: the same filter, the same number, and both lists
+module _ (a b : ℕ) (same : SameRing a b) where
+  pub both-filter : bitOr a b / 2 ^ 24 % 4 ≡ a / 2 ^ 24 % 4
+  both-filter = or-field 24 2 a b ∙ ap (bitOr (a / 2 ^ 24 % 4)) (sym (same .filter)) ∙ or-self (a / 2 ^ 24 % 4)
 
-pub both-listed : (a b : ℕ) → a / 2 ^ 24 % 4 ≡ 0 → b / 2 ^ 24 % 4 ≡ 0 → bitOr a b / 2 ^ 24 % 4 ≡ 0
-both-listed a b p q = or-field 24 2 a b ∙ (λ i. bitOr (p i) (q i))
+  pub both-number : bitOr a b % 16 ≡ a % 16
+  both-number = or-mod a b 4 ∙ ap (bitOr (a % 16)) (sym (same .number)) ∙ or-self (a % 16)
 
-pub same-number : (a b : ℕ) → a % 16 ≡ b % 16 → bitOr a b % 16 ≡ a % 16
-same-number a b p = or-mod a b 4 ∙ ap (bitOr (a % 16)) (sym p) ∙ or-self (a % 16)
+  or-same : (p : Bool) → p ≡ (p || p)
+  or-same true = refl
+  or-same false = refl
+
+  -- by filter
+  sentBy : ℕ → ℕ → SgiTarget
+  sentBy f value = cond (eqb f 0) (Mask (value / 2 ^ 16 % 256)) (cond (eqb f 1) AllExceptSelf (cond (eqb f 2) SelfOnly Nobody))
+
+  target-by : (value f : ℕ) → value / 2 ^ 24 % 4 ≡ f → sgiTarget value ≡ sentBy f value
+  unfolding sgiTarget sentBy
+  target-by value f e = rw e
+
+  module _ (source u : ℕ) where
+    -- of filters 1 to 3 it is the filter alone that says it
+    others : (p q : Bool) → includes (cond p AllExceptSelf (cond q SelfOnly Nobody)) source u ≡ (includes (cond p AllExceptSelf (cond q SelfOnly Nobody)) source u || includes (cond p AllExceptSelf (cond q SelfOnly Nobody)) source u)
+    others p q = or-same (includes (cond p AllExceptSelf (cond q SelfOnly Nobody)) source u)
+
+    both-sent : (p q r : Bool) → includes (cond p (Mask (bitOr a b / 2 ^ 16 % 256)) (cond q AllExceptSelf (cond r SelfOnly Nobody))) source u
+        ≡ (includes (cond p (Mask (a / 2 ^ 16 % 256)) (cond q AllExceptSelf (cond r SelfOnly Nobody))) source u || includes (cond p (Mask (b / 2 ^ 16 % 256)) (cond q AllExceptSelf (cond r SelfOnly Nobody))) source u)
+    both-sent true q r = ap (λ (m : ℕ). includes (Mask m) source u) (or-field 16 8 a b) ∙ flag-or u (a / 2 ^ 16 % 256) (b / 2 ^ 16 % 256)
+    both-sent false q r = others q r
+
+    pub both-includes : includes (sgiTarget (bitOr a b)) source u ≡ (includes (sgiTarget a) source u || includes (sgiTarget b) source u)
+    unfolding sentBy
+    both-includes =
+        let f : ℕ = a / 2 ^ 24 % 4 in
+        ap (λ (t : SgiTarget). includes t source u) (target-by (bitOr a b) f both-filter)
+        ∙ both-sent (eqb f 0) (eqb f 1) (eqb f 2)
+        ∙ sym (λ i. includes (target-by a f refl i) source u || includes (target-by b f (sym (same .filter)) i) source u)
+
+  -- whether anybody is looked up goes by the filter too
+  names-by : (f x y : ℕ) → names (sentBy f x) ≡ names (sentBy f y)
+  unfolding sentBy
+  names-by f x y = go (eqb f 0)
+    where
+      go : (p : Bool) → names (cond p (Mask (x / 2 ^ 16 % 256)) (cond (eqb f 1) AllExceptSelf (cond (eqb f 2) SelfOnly Nobody))) ≡ names (cond p (Mask (y / 2 ^ 16 % 256)) (cond (eqb f 1) AllExceptSelf (cond (eqb f 2) SelfOnly Nobody)))
+      go true = refl
+      go false = refl
+
+  pub first-sends : sends a ≡ sends (bitOr a b)
+  first-sends = let f : ℕ = a / 2 ^ 24 % 4 in ap names (target-by a f refl) ∙ names-by f a (bitOr a b) ∙ sym (ap names (target-by (bitOr a b) f both-filter))
+
+  pub second-sends : sends b ≡ sends (bitOr a b)
+  second-sends = let f : ℕ = a / 2 ^ 24 % 4 in ap names (target-by b f (sym (same .filter))) ∙ names-by f b (bitOr a b) ∙ sym (ap names (target-by (bitOr a b) f both-filter))

@@ -11,12 +11,13 @@ use Rattle.interrupt.specs.Record.{isReady}
 use Rattle.interrupt.specs.declared.record.CpuTargetMask.{CpuTargetMask}
 use Rattle.interrupt.specs.declared.record.InterruptRecord.{InterruptRecord}
 use Rattle.interrupt.specs.declared.types.Priority.{Priority}
+use Rattle.word.specs.Fields.{gathered}
 use Rattle.word.specs.Word.{bitOf, recordOf, maskByte}
 use Rattle.word.proofs.Gathered.{gathered-same}
 use Rattle.state.specs.declared.layout.Shape.{Shape}
 use Rattle.state.specs.declared.layout.InterfaceValue.{InterfaceValue}
 use Rattle.state.specs.declared.layout.InterfaceValue.the-variants.{Control, PriorityMask, BinaryPoint, Depth}
-use Rattle.state.specs.Layout.{Slot, DistributorControl, Interface, Spi, Stack, stackCapacity, Exists, Room, kindOf, isRecord, isSources}
+use Rattle.state.specs.Layout.{Slot, DistributorControl, Interface, Spi, Stack, stackCapacity, Exists, Limits, Room, kindOf, isRecord, isSources}
 use Rattle.state.specs.Loop.{upTo}
 use Rattle.state.specs.Words.{wordAt, put, recordSlot, recordAt, kept, interfaceAt, keptDistributorControl, enableBit, Exact}
 use Rattle.state.proofs.Accessors.{put-same, put-other, same-or-other, record-exists}
@@ -167,49 +168,75 @@ module _ (shape : Shape) (s r : List ℕ) (h : Sound shape s) (xs : Exact shape 
           preempting-ready shape u r m (best .below) (candidate-up m (best .below) (best .chosen))
           ((λ i. ltb (groupPriority (value-same BinaryPoint i) (priority i)) (running-same i)) ∙ is .preempting-one) (on-same ∙ is .on)
 
+or-off : (x : Bool) → (x || false) ≡ x
+or-off true = refl
+or-off false = refl
+
+-- who is woken: quiet before, offered something after, with room for it
+abbrev room : Shape → ℕ → List ℕ → Bool
+room shape u x = ltb (depthAt shape u x) stackCapacity
+
+module _ (shape : Shape) (l : Limits shape) where
+  wakes : (x y : List ℕ) (u : ℕ) → woken shape x y u ≡ (not (ready shape u x) && (ready shape u y && room shape u y))
+  wakes x y u = λ i. ready-spurious shape u x l i && ready-number shape u y l i
+
+  -- two steps, of which the second leaves the depths
+  module _ (s r t : List ℕ) (depth : (u : ℕ) → u < shape .count → wordAt shape (Interface u Depth) t ≡ wordAt shape (Interface u Depth) r) where
+    two-wake : (u : ℕ) → u < shape .count → (woken shape s r u || woken shape r t u)
+        ≡ ((not (ready shape u s) && (ready shape u r && room shape u t)) || (not (ready shape u r) && (ready shape u t && room shape u t)))
+    two-wake u e =
+        (λ i. wakes s r u i || wakes r t u i)
+        ∙ ap (λ (d : ℕ). (not (ready shape u s) && (ready shape u r && ltb d stackCapacity)) || (not (ready shape u r) && (ready shape u t && room shape u t))) (sym (depth u e))
+
+    -- whoever both together wake, one of them wakes: in any words
+    among : (a b c d : Bool) → (((not a && (b && d)) || (not b && (c && d))) || (not a && (c && d))) ≡ ((not a && (b && d)) || (not b && (c && d)))
+    among true b c d = or-off (not b && (c && d))
+    among false true true true = refl
+    among false true true false = refl
+    among false true false d = or-off (d || false)
+    among false false true true = refl
+    among false false true false = refl
+    among false false false d = refl
+
+    pub wakes-within : bitOr (bitOr (wakeSet shape s r) (wakeSet shape r t)) (wakeSet shape s t) ≡ bitOr (wakeSet shape s r) (wakeSet shape r t)
+    unfolding wakeSet
+    wakes-within =
+        ap (λ (x : ℕ). bitOr x (gathered 1 (λ u. bitOf (woken shape s t u)) (shape .count))) (gathered-or (woken shape s r) (woken shape r t) (shape .count))
+        ∙ gathered-or (λ u. woken shape s r u || woken shape r t u) (woken shape s t) (shape .count)
+        ∙ gathered-same 1 (λ u. bitOf ((woken shape s r u || woken shape r t u) || woken shape s t u)) (λ u. bitOf (woken shape s r u || woken shape r t u)) (shape .count) (λ u e. ap bitOf (each u e))
+        ∙ sym (gathered-or (woken shape s r) (woken shape r t) (shape .count))
+      where
+        each : (u : ℕ) → u < shape .count → ((woken shape s r u || woken shape r t u) || woken shape s t u) ≡ (woken shape s r u || woken shape r t u)
+        each u e = (λ i. two-wake u e i || wakes s t u i) ∙ among (ready shape u s) (ready shape u r) (ready shape u t) (room shape u t) ∙ sym (two-wake u e)
+
 -- the wake sets of two steps the same way
+rose : (a b c d : Bool) → (a ≡ true → b ≡ true) → (b ≡ true → c ≡ true) → ((not a && (b && d)) || (not b && (c && d))) ≡ (not a && (c && d))
+rose true true c d ab bc = refl
+rose true false c d ab bc = absurd (true≢false (sym (ab refl)))
+rose false true c d ab bc = rw (bc refl) (or-off d)
+rose false false c d ab bc = refl
+
+fell : (a b c d : Bool) → (b ≡ true → a ≡ true) → (c ≡ true → b ≡ true) → ((not a && (b && d)) || (not b && (c && d))) ≡ (not a && (c && d))
+fell true true c d ba cb = refl
+fell true false true d ba cb = absurd (true≢false (sym (cb refl)))
+fell true false false d ba cb = refl
+fell false true c d ba cb = absurd (true≢false (sym (ba refl)))
+fell false false true d ba cb = absurd (true≢false (sym (cb refl)))
+fell false false false d ba cb = refl
+
 module _ (shape : Shape) (s r t : List ℕ) (hs : Sound shape s) (hr : Sound shape r) (ht : Sound shape t) (xs : Exact shape s) (xr : Exact shape r) (xt : Exact shape t) where
-  abbrev room : ℕ → List ℕ → Bool
-  room u x = ltb (depthAt shape u x) stackCapacity
-
-  wakes : (x y : List ℕ) (u : ℕ) → woken shape x y u ≡ (not (ready shape u x) && (ready shape u y && room u y))
-  wakes x y u = λ i. ready-spurious shape u x (hs .state .limits) i && ready-number shape u y (hs .state .limits) i
-
-  rose : (a b c d : Bool) → (a ≡ true → b ≡ true) → (b ≡ true → c ≡ true) → ((not a && (b && d)) || (not b && (c && d))) ≡ (not a && (c && d))
-  rose true true c d ab bc = refl
-  rose true false c d ab bc = absurd (true≢false (sym (ab refl)))
-  rose false true c d ab bc = rw (bc refl) (or-off d)
-    where
-      or-off : (x : Bool) → (x || false) ≡ x
-      or-off true = refl
-      or-off false = refl
-  rose false false c d ab bc = refl
-
-  fell : (a b c d : Bool) → (b ≡ true → a ≡ true) → (c ≡ true → b ≡ true) → ((not a && (b && d)) || (not b && (c && d))) ≡ (not a && (c && d))
-  fell true true c d ba cb = refl
-  fell true false true d ba cb = absurd (true≢false (sym (cb refl)))
-  fell true false false d ba cb = refl
-  fell false true c d ba cb = absurd (true≢false (sym (ba refl)))
-  fell false false true d ba cb = absurd (true≢false (sym (cb refl)))
-  fell false false false d ba cb = refl
-
-  depth-same : (up : Bool) (x y : List ℕ) → Way up (Rising shape) x y → (u : ℕ) → u < shape .count → room u y ≡ room u x
-  depth-same true x y w u b = ap (λ (d : ℕ). ltb d stackCapacity) (w .still (Interface u Depth) b refl refl)
-  depth-same false x y w u b = ap (λ (d : ℕ). ltb d stackCapacity) (sym (w .still (Interface u Depth) b refl refl))
+  depth-same : (up : Bool) → Way up (Rising shape) r t → (u : ℕ) → u < shape .count → wordAt shape (Interface u Depth) t ≡ wordAt shape (Interface u Depth) r
+  depth-same true w u b = w .still (Interface u Depth) b refl refl
+  depth-same false w u b = sym (w .still (Interface u Depth) b refl refl)
 
   together : (up : Bool) → Way up (Rising shape) s r → Way up (Rising shape) r t → (u : ℕ) → u < shape .count
-      → ((not (ready shape u s) && (ready shape u r && room u t)) || (not (ready shape u r) && (ready shape u t && room u t))) ≡ (not (ready shape u s) && (ready shape u t && room u t))
-  together true a b u e = rose (ready shape u s) (ready shape u r) (ready shape u t) (room u t) (ready-up shape s r hs xs xr a u e) (ready-up shape r t hr xr xt b u e)
-  together false a b u e = fell (ready shape u s) (ready shape u r) (ready shape u t) (room u t) (ready-up shape r s hr xr xs a u e) (ready-up shape t r ht xt xr b u e)
+      → ((not (ready shape u s) && (ready shape u r && room shape u t)) || (not (ready shape u r) && (ready shape u t && room shape u t))) ≡ (not (ready shape u s) && (ready shape u t && room shape u t))
+  together true a b u e = rose (ready shape u s) (ready shape u r) (ready shape u t) (room shape u t) (ready-up shape s r hs xs xr a u e) (ready-up shape r t hr xr xt b u e)
+  together false a b u e = fell (ready shape u s) (ready shape u r) (ready shape u t) (room shape u t) (ready-up shape r s hr xr xs a u e) (ready-up shape t r ht xt xr b u e)
 
   pub wakes-add : (up : Bool) → Way up (Rising shape) s r → Way up (Rising shape) r t → bitOr (wakeSet shape s r) (wakeSet shape r t) ≡ wakeSet shape s t
   unfolding wakeSet
   wakes-add up a b =
       gathered-or (woken shape s r) (woken shape r t) (shape .count)
-      ∙ gathered-same 1 (λ u. bitOf (woken shape s r u || woken shape r t u)) (λ u. bitOf (woken shape s t u)) (shape .count) (λ u e. ap bitOf (each u e))
-    where
-      each : (u : ℕ) → u < shape .count → (woken shape s r u || woken shape r t u) ≡ woken shape s t u
-      each u e =
-          (λ i. wakes s r u i || wakes r t u i)
-          ∙ ap (λ (d : Bool). (not (ready shape u s) && (ready shape u r && d)) || (not (ready shape u r) && (ready shape u t && room u t))) (sym (depth-same up r t b u e))
-          ∙ together up a b u e ∙ sym (wakes s t u)
+      ∙ gathered-same 1 (λ u. bitOf (woken shape s r u || woken shape r t u)) (λ u. bitOf (woken shape s t u)) (shape .count)
+      (λ u e. ap bitOf (two-wake shape (hs .state .limits) s r t (depth-same up b) u e ∙ together up a b u e ∙ sym (wakes shape (hs .state .limits) s t u)))

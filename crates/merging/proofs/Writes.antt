@@ -25,18 +25,16 @@ use Rattle.state.specs.Words.{recordAt, sourcesAt, keptDistributorControl, Exac
 use Rattle.state.proofs.Numbers.{Of}
 use Rattle.state.proofs.Ready.{Summed, put-put}
 use Rattle.bits.specs.Bits.{isConfig, BitWordAt}
-use Rattle.sgi.specs.declared.SgiTarget.the-variants.{Mask}
 use Rattle.sgi.specs.Sgi.{mergedSources, writeSources, sgiTarget, sendSgi, writeSgir}
 use Rattle.sgi.proofs.Rings.{merged-fits, written-sources, written-pends}
 use Rattle.distributor.specs.Bytes.{writeByte, writeBytes, ByteThere, BytesAt}
 use Rattle.distributor.proofs.Registers.{bytes-written}
-use Rattle.places.specs.Places.{ringed, writeClass, writePlace, PlaceWritten}
+use Rattle.places.specs.Places.{sends, ringed, writeClass, writePlace, PlaceWritten}
 use Rattle.places.proofs.Fits.{bit-word, byte-run}
 use Rattle.merging.specs.Merging.{SameRing, MayMerge, asOne, bitsAsOne, bytesAsOne, wakesAdd}
 use Rattle.merging.proofs.Bits.{bits-as-one, numbers-apart}
 use Rattle.merging.proofs.Bytes.{ByteNeeds, needs-kept, bytes-as-one, run-own}
-use Rattle.merging.proofs.Joined.{or-field}
-use Rattle.merging.proofs.Rings.{sent-as-one, sent-way, listed, both-listed, same-number}
+use Rattle.merging.proofs.Rings.{sent-as-one, sent-way, both-number, both-includes, first-sends, second-sends}
 use Rattle.merging.proofs.Rising.{Way, Rising, way-none, run-way}
 use Rattle.merging.proofs.Sources.{Pends, pends-kept}
 use Rattle.merging.proofs.Ways.{raises, bits-way, source-way}
@@ -63,7 +61,7 @@ mod-may-merge Ctlr a b may = tt
 mod-may-merge Typer a b may = tt
 mod-may-merge Iidr a b may = tt
 mod-may-merge Sgir a b may =
-    record { first-lists = omega (arith, may .first-lists); second-lists = omega (arith, may .second-lists); number = omega (arith, may .number) }
+    record { filter = omega (arith, may .filter); number = omega (arith, may .number) }
 mod-may-merge (Bits register) a b may = tt
 mod-may-merge (Bytes register) a b may = tt
 mod-may-merge Other a b may = tt
@@ -78,48 +76,26 @@ ClassNeeds shape v (Bits register) first w s = Unit
 ClassNeeds shape v (Bytes register) first w s = (i : ℕ) → i < bytes w → ByteNeeds shape register v (first + i) s
 ClassNeeds shape v Other first w s = Unit
 
--- .. and at SGIR the value: it lists whom it sends to
-abbrev pub Lists : Class → ℕ → Type 0
-Lists Ctlr x = Unit
-Lists Typer x = Unit
-Lists Iidr x = Unit
-Lists Sgir x = x / 2 ^ 24 % 4 ≡ 0
-Lists (Bits register) x = Unit
-Lists (Bytes register) x = Unit
-Lists Other x = Unit
+-- two rings of one number by one filter
+rings-as-one : (shape : Shape) (v x y : ℕ) (s : List ℕ) → Room shape s → (sends x ≡ true → v < shape .count) → SameRing x y → ringed shape v y (ringed shape v x s) ≡ ringed shape v (bitOr x y) s
+rings-as-one shape v x y s h looked may = go (sends x) refl
+  where
+    sent : v < shape .count → writeSgir shape v y (writeSgir shape v x s) ≡ writeSgir shape v (bitOr x y) s
+    sent exists =
+        unfold writeSgir in
+        (ap (λ (n : ℕ). sendSgi shape v n (sgiTarget y) (sendSgi shape v (x % 16) (sgiTarget x) s)) (sym (may .number))
+        ∙ sent-as-one shape v (x % 16) (omega (arith, exists, h .limits .few-vcpus)) (omega arith) s (h .limits) (sgiTarget x) (sgiTarget y) (sgiTarget (bitOr x y)) (both-includes x y may v) h
+        ∙ ap (λ (n : ℕ). sendSgi shape v n (sgiTarget (bitOr x y)) s) (sym (both-number x y may)))
 
-pub first-lists : (c : Class) (x y : ℕ) → MayMerge c x y → Lists c x
-first-lists Ctlr x y may = tt
-first-lists Typer x y may = tt
-first-lists Iidr x y may = tt
-first-lists Sgir x y may = may .first-lists
-first-lists (Bits register) x y may = tt
-first-lists (Bytes register) x y may = tt
-first-lists Other x y may = tt
+    one : sends (bitOr x y) ≡ sends x
+    one = sym (first-sends x y may)
 
-pub second-lists : (c : Class) (x y : ℕ) → MayMerge c x y → Lists c y
-second-lists Ctlr x y may = tt
-second-lists Typer x y may = tt
-second-lists Iidr x y may = tt
-second-lists Sgir x y may = may .second-lists
-second-lists (Bits register) x y may = tt
-second-lists (Bytes register) x y may = tt
-second-lists Other x y may = tt
+    two : sends y ≡ sends x
+    two = second-sends x y may ∙ one
 
--- a ring to a list
-ringed-list : (shape : Shape) (v value : ℕ) (s : List ℕ) → value / 2 ^ 24 % 4 ≡ 0 → ringed shape v value s ≡ sendSgi shape v (value % 16) (Mask (value / 2 ^ 16 % 256)) s
-unfolding writeSgir
-ringed-list shape v value s e = simp (listed value e)
-
-rings-as-one : (shape : Shape) (v x y : ℕ) (s : List ℕ) → Room shape s → v < shape .count → SameRing x y → ringed shape v y (ringed shape v x s) ≡ ringed shape v (bitOr x y) s
-rings-as-one shape v x y s h exists may =
-    let few : v < 8 = omega (arith, exists, h .limits .few-vcpus) in
-    ringed-list shape v y (ringed shape v x s) (may .second-lists)
-    ∙ ap (sendSgi shape v (y % 16) (Mask (y / 2 ^ 16 % 256))) (ringed-list shape v x s (may .first-lists))
-    ∙ ap (λ (n : ℕ). sendSgi shape v n (Mask (y / 2 ^ 16 % 256)) (sendSgi shape v (x % 16) (Mask (x / 2 ^ 16 % 256)) s)) (sym (may .number))
-    ∙ sent-as-one shape v (x % 16) few (omega arith) s (h .limits) (x / 2 ^ 16 % 256) (y / 2 ^ 16 % 256) h
-    ∙ sym (λ i. sendSgi shape v (same-number x y (may .number) i) (Mask (or-field 16 8 x y i)) s)
-    ∙ sym (ringed-list shape v (bitOr x y) s (both-listed x y (may .first-lists) (may .second-lists)))
+    go : (b : Bool) → sends x ≡ b → ringed shape v y (ringed shape v x s) ≡ ringed shape v (bitOr x y) s
+    go true e = simp (one, two, e) (sent (looked e))
+    go false e = simp (one, two, e)
 
 -- one byte: which way, and what it leaves
 abbrev byteRaises : ByteRegister → Bool
@@ -185,31 +161,33 @@ module _ (shape : Shape) (v : ℕ) (place : Place) (w : AccessWidth) (x : ℕ) (
   run-at : (register : ByteRegister) → place .class ≡ Bytes register → BytesAt shape register v first (bytes w) s
   run-at register e = byte-run shape v place w s (at .state) (at .located) register e (λ q. at .looked (simp e q))
 
-  -- who rings is there
-  rings : place .class ≡ Sgir → x / 2 ^ 24 % 4 ≡ 0 → v < shape .count
-  rings e lists = at .looked (simp (e, listed x lists))
+  rings : place .class ≡ Sgir → sends x ≡ true → v < shape .count
+  rings e sent = at .looked (simp e sent)
 
   as-one-by : (c : Class) → place .class ≡ c → (y : ℕ) → MayMerge c x y → ClassNeeds shape v c first w s
       → writeClass shape v c first w y (writeClass shape v c first w x s) ≡ writeClass shape v c first w (asOne c x y) s
   as-one-by Ctlr e y may need = put-put shape s (at .state) DistributorControl (keptDistributorControl x) (keptDistributorControl y) tt
   as-one-by Typer e y may need = refl
   as-one-by Iidr e y may need = refl
-  as-one-by Sgir e y may need = rings-as-one shape v x y s (at .state) (rings e (may .first-lists)) may
+  as-one-by Sgir e y may need = rings-as-one shape v x y s (at .state) (rings e) may
   as-one-by (Bits register) e y may need = bits-as-one shape register v first s (word-at register e) x y
   as-one-by (Bytes register) e y may need = bytes-as-one shape register v first (bytes w) s (run-at register e) x y need
   as-one-by Other e y may need = refl
 
-  way-by : (c : Class) → place .class ≡ c → wakesAdd c ≡ true → Lists c x → ClassNeeds shape v c first w s → Exact shape s
+  way-by : (c : Class) → place .class ≡ c → wakesAdd c ≡ true → ClassNeeds shape v c first w s → Exact shape s
       → Way (classRaises c) (Rising shape) s (writeClass shape v c first w x s) × Summed shape (writeClass shape v c first w x s)
-  way-by Ctlr e adds lists need exact = absurd (true≢false (sym adds))
-  way-by Typer e adds lists need exact = (way-none true shape s, (at .state, exact))
-  way-by Iidr e adds lists need exact = (way-none true shape s, (at .state, exact))
-  way-by Sgir e adds lists need exact =
-      let few : v < 8 = omega (arith, rings e lists, at .state .limits .few-vcpus) in
-      rw (ringed-list shape v x s lists) (sent-way shape v (x % 16) few (omega arith) s (at .state .limits) (x / 2 ^ 16 % 256) (at .state, exact))
-  way-by (Bits register) e adds lists need exact = bits-way shape register v first x s (word-at register e) exact
-  way-by (Bytes register) e adds lists need exact = bytes-way shape register v first (bytes w) x s (run-at register e) need adds exact
-  way-by Other e adds lists need exact = (way-none true shape s, (at .state, exact))
+  way-by Ctlr e adds need exact = absurd (true≢false (sym adds))
+  way-by Typer e adds need exact = (way-none true shape s, (at .state, exact))
+  way-by Iidr e adds need exact = (way-none true shape s, (at .state, exact))
+  way-by Sgir e adds need exact = go (sends x) refl
+    where
+      go : (b : Bool) → sends x ≡ b → Rising shape s (cond b (writeSgir shape v x s) s) × Summed shape (cond b (writeSgir shape v x s) s)
+      go true sent =
+          unfold writeSgir in sent-way shape v (x % 16) (omega (arith, rings e sent, at .state .limits .few-vcpus)) (omega arith) s (at .state .limits) (sgiTarget x) (at .state, exact)
+      go false sent = (way-none true shape s, (at .state, exact))
+  way-by (Bits register) e adds need exact = bits-way shape register v first x s (word-at register e) exact
+  way-by (Bytes register) e adds need exact = bytes-way shape register v first (bytes w) x s (run-at register e) need adds exact
+  way-by Other e adds need exact = (way-none true shape s, (at .state, exact))
 
   leaves-by : (c : Class) → place .class ≡ c → ClassNeeds shape v c first w s → ClassNeeds shape v c first w (writeClass shape v c first w x s)
   leaves-by Ctlr e need = tt
@@ -224,9 +202,9 @@ module _ (shape : Shape) (v : ℕ) (place : Place) (w : AccessWidth) (x : ℕ) (
       → writePlace shape v place w y (writePlace shape v place w x s) ≡ writePlace shape v place w (asOne (place .class) x y) s
   place-as-one y may need = as-one-by (place .class) refl y may need
 
-  pub place-way : wakesAdd (place .class) ≡ true → Lists (place .class) x → ClassNeeds shape v (place .class) (place .first .0) w s → Exact shape s
+  pub place-way : wakesAdd (place .class) ≡ true → ClassNeeds shape v (place .class) (place .first .0) w s → Exact shape s
       → Way (classRaises (place .class)) (Rising shape) s (writePlace shape v place w x s) × Summed shape (writePlace shape v place w x s)
-  place-way adds lists need exact = way-by (place .class) refl adds lists need exact
+  place-way adds need exact = way-by (place .class) refl adds need exact
 
   pub place-leaves : ClassNeeds shape v (place .class) (place .first .0) w s → ClassNeeds shape v (place .class) (place .first .0) w (writePlace shape v place w x s)
   place-leaves need = leaves-by (place .class) refl need

@@ -50,6 +50,10 @@ pub record OneState (write : ℕ → List ℕ → Outcome) (a b c : ℕ) (s : Li
 abbrev pub OneWakeSet : (ℕ → List ℕ → Outcome) → ℕ → ℕ → ℕ → List ℕ → Type 0
 OneWakeSet write a b c s = bitOr (write a s .wake) (write b (write a s .state) .wake) ≡ write c s .wake
 
+-- everywhere the one write wakes nobody whom neither of the two wakes: its wake set adds nothing to theirs
+abbrev pub WakesNoOther : (ℕ → List ℕ → Outcome) → ℕ → ℕ → ℕ → List ℕ → Type 0
+WakesNoOther write a b c s = bitOr (bitOr (write a s .wake) (write b (write a s .state) .wake)) (write c s .wake) ≡ bitOr (write a s .wake) (write b (write a s .state) .wake)
+
 -- the one write: where 1 bits set or clear, "the bits of both"; where what is written replaces what was, "only the later counts"
 abbrev pub bitsAsOne : BitRegister → ℕ → ℕ → ℕ
 bitsAsOne register a b = cond (isConfig register) b (bitOr a b)
@@ -69,10 +73,9 @@ asOne (Bits register) a b = bitsAsOne register a b
 asOne (Bytes register) a b = bytesAsOne register a b
 asOne Other a b = b
 
--- any two writes at a place are one, but at SGIR: there both must send the same number, to vCPUs that they list (filter 0)
+-- any two writes at a place are one, but at SGIR: there both must send the same number by the same filter
 pub record SameRing (a b : ℕ) : Type 0 where
-  pub first-lists : a / 2 ^ 24 % 4 ≡ 0
-  pub second-lists : b / 2 ^ 24 % 4 ≡ 0
+  pub filter : a / 2 ^ 24 % 4 ≡ b / 2 ^ 24 % 4
   pub number : a % 16 ≡ b % 16
 
 abbrev pub MayMerge : Class → ℕ → ℕ → Type 0

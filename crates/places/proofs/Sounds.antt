@@ -30,41 +30,57 @@ pub depths-sound : (shape : Shape) (s r : List ℕ) → Sound shape s → Room s
     → ((u : ℕ) → u < shape .count → wordAt shape (Interface u Depth) r ≡ wordAt shape (Interface u Depth) s) → Sound shape r
 depths-sound shape s r h room same = record { state = room; depths = λ u x. rw (same u x) (h .depths u x) }
 
+pub record SameDepths (shape : Shape) (s r : List ℕ) : Type 0 where
+  pub room : Room shape r
+  pub depth : (u : ℕ) → u < shape .count → wordAt shape (Interface u Depth) r ≡ wordAt shape (Interface u Depth) s
+
 -- a number has a record and a source set, and no depth
 pub no-depth : (u v n : ℕ) → Of v n (Interface u Depth) → ⊥
 no-depth u v n (inl p) = record-apart v n (Interface u Depth) refl (sym p)
 no-depth u v n (inr p) = kinds-apart (Interface u Depth) (Sources v n) refl p
 
-module _ (shape : Shape) (v : ℕ) (place : Place) (w : AccessWidth) (value : ℕ) (s : List ℕ) (h : Sound shape s) (at : PlaceWritten shape v place w value s) where
-  control-sound : Sound shape (writeControl shape value s)
-  control-sound =
-      depths-sound shape s _ h (put-room shape s DistributorControl _ (h .state))
-      (λ u x. put-other shape s (Interface u Depth) DistributorControl _ x tt (kinds-apart (Interface u Depth) DistributorControl refl))
+module _ (shape : Shape) (v : ℕ) (place : Place) (w : AccessWidth) (value : ℕ) (s : List ℕ) (at : PlaceWritten shape v place w value s) where
+  stays : SameDepths shape s s
+  stays = record { room = at .state; depth = λ u x. refl }
 
-  ring-sound : Sound shape (writeSgir shape v value s)
+  control-depths : SameDepths shape s (writeControl shape value s)
+  control-depths = record {
+    room = put-room shape s DistributorControl _ (at .state);
+    depth = λ u x. put-other shape s (Interface u Depth) DistributorControl _ x tt (kinds-apart (Interface u Depth) DistributorControl refl);
+  }
+
+  ring-depths : SameDepths shape s (writeSgir shape v value s)
   unfolding writeSgir
-  ring-sound =
-      depths-sound shape s _ h (sgi-room shape v (value % 16) (sgiTarget value) s (h .state) (omega arith))
-      (λ u x. sgi-others shape v (value % 16) (sgiTarget value) s (h .state) (omega arith) (Interface u Depth) x (λ t b. no-depth u t (value % 16)))
+  ring-depths = record {
+    room = sgi-room shape v (value % 16) (sgiTarget value) s (at .state) (omega arith);
+    depth = λ u x. sgi-others shape v (value % 16) (sgiTarget value) s (at .state) (omega arith) (Interface u Depth) x (λ t b. no-depth u t (value % 16));
+  }
 
-  ringed-sound : (b : Bool) → Sound shape (cond b (writeSgir shape v value s) s)
-  ringed-sound true = ring-sound
-  ringed-sound false = h
+  ringed-depths : (b : Bool) → SameDepths shape s (cond b (writeSgir shape v value s) s)
+  ringed-depths true = ring-depths
+  ringed-depths false = stays
 
-  by-class : (c : Class) → place .class ≡ c → Sound shape (writeClass shape v c (place .first .0) w value s)
-  by-class Ctlr e = control-sound
-  by-class Typer e = h
-  by-class Iidr e = h
-  by-class Sgir e = ringed-sound (sends value)
+  by-class : (c : Class) → place .class ≡ c → SameDepths shape s (writeClass shape v c (place .first .0) w value s)
+  by-class Ctlr e = control-depths
+  by-class Typer e = stays
+  by-class Iidr e = stays
+  by-class Sgir e = ringed-depths (sends value)
   by-class (Bits register) e =
-      let word = bit-word shape v place w s (h .state) (at .located) register e (λ q. at .looked (simp e q)) in
-      depths-sound shape s _ h (bits-room shape register v (place .first .0) value s word)
-      (λ u x. bits-others shape register v (place .first .0) value s word (Interface u Depth) x (λ i b. no-depth u v _))
+      let word = bit-word shape v place w s (at .state) (at .located) register e (λ q. at .looked (simp e q)) in
+      record {
+        room = bits-room shape register v (place .first .0) value s word;
+        depth = λ u x. bits-others shape register v (place .first .0) value s word (Interface u Depth) x (λ i b. no-depth u v _);
+      }
   by-class (Bytes register) e =
-      let run = byte-run shape v place w s (h .state) (at .located) register e (λ q. at .looked (simp e q)) in
-      depths-sound shape s _ h (bytes-room shape register v (place .first .0) _ value s run)
-      (λ u x. bytes-others shape register v (place .first .0) _ value s run (Interface u Depth) x (λ i b. no-depth u v _))
-  by-class Other e = h
+      let run = byte-run shape v place w s (at .state) (at .located) register e (λ q. at .looked (simp e q)) in
+      record {
+        room = bytes-room shape register v (place .first .0) _ value s run;
+        depth = λ u x. bytes-others shape register v (place .first .0) _ value s run (Interface u Depth) x (λ i b. no-depth u v _);
+      }
+  by-class Other e = stays
 
-  pub place-sound : Sound shape (writePlace shape v place w value s)
-  place-sound = by-class (place .class) refl
+  pub place-depths : SameDepths shape s (writePlace shape v place w value s)
+  place-depths = by-class (place .class) refl
+
+pub place-sound : (shape : Shape) (v : ℕ) (place : Place) (w : AccessWidth) (value : ℕ) (s : List ℕ) → Sound shape s → PlaceWritten shape v place w value s → Sound shape (writePlace shape v place w value s)
+place-sound shape v place w value s h at = let same = place-depths shape v place w value s at in depths-sound shape s (writePlace shape v place w value s) h (same .room) (same .depth)

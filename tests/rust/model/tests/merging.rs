@@ -259,7 +259,7 @@ fn expect_states(tally: &Tally, scenes: u64) {
     for what in ["a false bit", "sources, not pending"] {
         tally.expect("states", Kind::Any, what, scenes);
     }
-    tally.expect("states", Kind::Any, "enough, not demand 3", scenes / 2);
+    tally.expect("states", Kind::Any, "enough, not demand 3", scenes / 5);
     for kind in Kind::ALL {
         tally.expect("states", kind, "a full stack", scenes / 10);
         tally.expect("states", kind, "a limit in a word", scenes);
@@ -327,12 +327,10 @@ fn expect_cases(tally: &Tally) {
     }
 }
 
-/// In any words a false bit can part the wake sets of every register that can make an SPI ready and leave another not, and CPENDSGIR's state
-/// can be another; `small` has the least of each.
+/// In any words a false bit can part the wake sets, and CPENDSGIR's state can be another; `small` has the least of each.
 fn expect_failures(tally: &Tally) {
-    for name in ["ISENABLER", "ISPENDR", "ICPENDR", "ICACTIVER", "CPENDSGIR"] {
-        tally.expect(name, Kind::Any, "other wake set", 1);
-    }
+    tally.expect("ISENABLER", Kind::Any, "other wake set", 2);
+    tally.expect("CPENDSGIR", Kind::Any, "other wake set", 2);
     tally.expect("CPENDSGIR", Kind::Any, "other state", 20);
     tally.expect("ICFGR", Kind::Any, "woke", 20);
 }

@@ -38,7 +38,11 @@ pub fn made(random: &mut Random, scene: &Scene, kind: Kind) -> Gic {
     } else {
         falsify(random, &scene.cast, &mut strewn);
     }
-    words::read(&strewn).expect("a state")
+    let mut gic = words::read(&strewn).expect("a state");
+    if random.percent(30) {
+        mend(random, &mut gic);
+    }
+    gic
 }
 
 fn loosen(random: &mut Random, cast: &Cast, gic: &mut Gic) {
@@ -115,6 +119,17 @@ fn summarize(random: &mut Random, gic: &mut Gic) {
     }
 }
 
+/// Enough of demand 3 comes back.
+fn mend(random: &mut Random, gic: &mut Gic) {
+    for (at, _) in gic.sources.iter().enumerate().filter(|it| *it.1 != 0) {
+        let record = &mut gic.records[at / 16 * 32 + at % 16];
+        let mut parts = record.parts();
+        parts.pending = true;
+        *record = Record::make(&parts, record.owner);
+    }
+    summarize(random, gic);
+}
+
 fn is_ready(gic: &Gic, spi: u64) -> bool {
     let parts = gic.records[gic.slot(0, spi)].parts();
     parts.enabled && parts.pending && !parts.active
@@ -145,7 +160,7 @@ fn falsify(random: &mut Random, cast: &Cast, words: &mut [u32]) {
         if number < 16 && random.percent(50) {
             words[own + 4 + number] ^= random.number() as u32;
         }
-        if number >= 32 && random.percent(30) {
+        if number >= 32 && random.percent(50) {
             words[summary + number / 32 - 1] ^= 1 << (number % 32);
         }
     }
