@@ -29,7 +29,7 @@ use Rattle.state.proofs.Tests.{left-true}
 use Rattle.bits.specs.Bits.{fieldBits, perWord, acts, clearActive, act, writeNumber, writeBits, BitWordAt}
 use Rattle.bits.proofs.Registers.{act-in-range}
 use Rattle.merging.specs.Merging.{bitsAsOne}
-use Rattle.merging.proofs.Joined.{flag-or}
+use Rattle.merging.proofs.Joined.{flag-or, or-same}
 use Rattle.merging.proofs.Own.{Own, if-own, changed-own, runs-merge}
 
 -- a record changed twice
@@ -96,10 +96,6 @@ pend-or : (n i a b : ℕ) → acts Ispendr n (fieldAt 1 i (bitOr a b)) ≡ (acts
 pend-or n i a b =
     let others = not (isSgi (record { 0 = n })) in
     ap (λ (p : Bool). p && others) (bit-or i a b) ∙ or-and (eqb (fieldAt 1 i a) 1) (eqb (fieldAt 1 i b) 1) others
-
-or-same : (p : Bool) → p ≡ (p || p)
-or-same true = refl
-or-same false = refl
 
 fused : (register : BitRegister) (n i a b : ℕ)
     → Fused register n (fieldAt (fieldBits register) i a) (fieldAt (fieldBits register) i b) (fieldAt (fieldBits register) i (bitsAsOne register a b))

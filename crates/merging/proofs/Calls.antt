@@ -4,9 +4,7 @@ use mathlib.Core.Path.{_≡_, refl, sym, ap, subst, _∙_}
 use mathlib.Core.Bool.{Bool, true, false, not, cond, true≢false}
 use mathlib.Core.List.{List}
 use Prim.Native.Nat.{ℕ, _+_, _%_, _^_, _<_}
-use native.Mathlib.Omega.{arith}
 use lib.Bits.{bitOr, or-zero-r}
-use lib.Dec.{eqb}
 use borrow.Author.Tests.{ne-eqb}
 use Rattle.register.specs.declared.frame.AccessWidth.{AccessWidth}
 use Rattle.register.specs.declared.frame.AccessWidth.the-variants.{Dword}
@@ -25,12 +23,12 @@ use Rattle.state.specs.declared.layout.Shape.{Shape}
 use Rattle.state.specs.declared.lent.Lent.{Lent}
 use Rattle.state.specs.declared.lent.Lent.the-variants as lent
 use Rattle.state.specs.Lent.{validated}
-use Rattle.state.specs.Words.{recordAt, sourcesAt, Exact}
+use Rattle.state.specs.Words.{sourcesAt, Exact}
 use Rattle.state.proofs.Validated.{held-validated}
 use Rattle.service.specs.Service.{Sound}
 use Rattle.service.proofs.Soundness.{validated-sound}
 use Rattle.wake.specs.Wake.{wakeSet}
-use Rattle.places.specs.Places.{byteLooksUp, writePlaceLooksUp, writePlace, PlaceWritten}
+use Rattle.places.specs.Places.{writePlaceLooksUp, writePlace, PlaceWritten}
 use Rattle.places.proofs.Fits.{byte-run}
 use Rattle.places.proofs.Sounds.{place-depths, place-sound}
 use Rattle.answer.specs.Answer.{Outcome, refused, went, absent}
@@ -39,11 +37,10 @@ use Rattle.distributor_frame.specs.DistributorFrame.{writeV2Distributor}
 use Rattle.lawful.specs.Lawful.{Orderly}
 use Rattle.history.specs.History.{WriteDistributor}
 use Rattle.history.proofs.Calls.{call-valid}
-use Rattle.merging.specs.Merging.{Described, PlacedAs, writeThere, OneState, OneWakeSet, WakesNoOther, asOne, MayMerge, Supposes, wakesAdd}
+use Rattle.merging.specs.Merging.{Described, PlacedAs, writeThere, OneState, OneWakeSet, WakesNoOther, asOne, MayMerge, Supposes, wakesAdd, wakesNobody}
 use Rattle.merging.proofs.Bytes.{ByteNeeds}
 use Rattle.merging.proofs.Rings.{first-sends, second-sends}
-use Rattle.merging.proofs.Rising.{wakes-within, wakes-add}
-use Rattle.merging.proofs.Sources.{Pends}
+use Rattle.merging.proofs.Rising.{Way, Rising, wakes-within, wakes-add, fallen-wakes-nobody}
 use Rattle.merging.proofs.Writes.{mod-as-one, mod-may-merge, ClassNeeds, classRaises, place-as-one, place-way, place-leaves}
 
 -- the vCPU is looked up for all of the three writes or for none
@@ -81,6 +78,22 @@ module _ (v offset : ℕ) (width : AccessWidth) (place : Place) (located : locat
     -- the words after it are a state of the same shape
     pub after-valid : (value : ℕ) (r : List ℕ) → write value s .state ≡ r → validated r ≡ lent.Sound shape
     after-valid value r e = subst (λ (t : List ℕ). validated t ≡ lent.Sound shape) e (call-valid shape s h (WriteDistributor v offset width value) refl)
+
+  -- one write alone, where nothing is made readier
+  module _ (shape : Shape) (s : List ℕ) (h : validated s ≡ lent.Sound shape) (exact : Exact shape s) (a : ℕ) where
+    pub none-woken : wakesAdd (place .class) ≡ true → wakesNobody (place .class) ≡ true → (PlaceWritten shape v place width (a % 2 ^ 32) s → ClassNeeds shape v (place .class) (place .first .0) width s) → write a s .wake ≡ 0
+    none-woken adds nobody need = ap (λ (o : Outcome). o .wake) (written a s shape h (looks (a % 2 ^ 32)) refl) ∙ go (absent (looks (a % 2 ^ 32)) shape v) refl
+      where
+        r : List ℕ
+        r = writePlace shape v place width (a % 2 ^ 32) s
+
+        go : (q : Bool) → absent (looks (a % 2 ^ 32)) shape v ≡ q → cond q (refused Vcpu s) (went shape 1023 s r) .wake ≡ 0
+        go true e = refl
+        go false e =
+            let at = place-at shape s h (a % 2 ^ 32) (looks (a % 2 ^ 32)) refl e in
+            let sound = validated-sound shape s h in
+            let way = place-way shape v place width (a % 2 ^ 32) s at adds (need at) exact in
+            fallen-wakes-nobody shape s r sound (place-sound shape v place width (a % 2 ^ 32) s sound at) exact (way .1 .1) (subst (λ (q : Bool). Way (not q) (Rising shape) s r) nobody (way .0))
 
   module _ (a b : ℕ) (may : MayMerge (place .class) a b) where
     abbrev x : ℕ
@@ -270,6 +283,26 @@ wake-sets-add-up v offset width class at adds a b may s d =
     subst (λ (k : Class). wakesAdd k ≡ true → MayMerge k a b → OneWakeSet (writeThere v offset width) a b (asOne k a b) s) (at .is)
     (λ q m. wakes-as-one v offset width (at .place) (at .located) a b m s q (d .shape) (held-validated s (d .shape) (d .holds)) (d .orderly .summary)
     (λ written. class-needed (d .shape) v (at .place) width (a % 2 ^ 32) s written (at .place .class) refl (d .orderly))) adds may
+
+-- ICENABLER, ICPENDR, ISACTIVER, ICFGR and CPENDSGIR wake nobody
+nobody-adds : (c : Class) → wakesNobody c ≡ true → wakesAdd c ≡ true
+nobody-adds Ctlr e = absurd (true≢false (sym e))
+nobody-adds Typer e = refl
+nobody-adds Iidr e = refl
+nobody-adds Sgir e = refl
+nobody-adds (Bits register) e = refl
+nobody-adds (Bytes Ipriorityr) e = absurd (true≢false (sym e))
+nobody-adds (Bytes Itargetsr) e = absurd (true≢false (sym e))
+nobody-adds (Bytes Cpendsgir) e = refl
+nobody-adds (Bytes Spendsgir) e = refl
+nobody-adds Other e = refl
+
+pub nobody-is-woken : (v offset : ℕ) (width : AccessWidth) (class : Class) → PlacedAs offset width class → wakesNobody class ≡ true → (a : ℕ) (s : List ℕ) → Described s
+    → writeThere v offset width a s .wake ≡ 0
+nobody-is-woken v offset width class at nobody a s d =
+    let none = ap wakesNobody (at .is) ∙ nobody in
+    none-woken v offset width (at .place) (at .located) (d .shape) s (held-validated s (d .shape) (d .holds)) (d .orderly .summary) a (nobody-adds (at .place .class) none) none
+    (λ written. class-needed (d .shape) v (at .place) width (a % 2 ^ 32) s written (at .place .class) refl (d .orderly))
 
 -- "set-enable with a and then with b leaves the state of one write with the bits of both, and the two wake sets together are that write's wake set"
 pub set-enable-adds-up : (v offset a b : ℕ) → PlacedAs offset Dword (Bits Isenabler) → (s : List ℕ) → Described s

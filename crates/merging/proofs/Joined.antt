@@ -6,7 +6,6 @@ use native.Mathlib.Nat.{add-comm}
 use native.Mathlib.Omega.{arith}
 use lib.Bits.{bitAnd, bitOr, or-shr, or-mod, or-zero-l, and-zero-l, or-add-and, or-lt, or-block, and-le-l}
 use lib.Dec.{eqb}
-use borrow.Author.Tests.{ne-eqb}
 use Rattle.interrupt.specs.Types.{everyVcpu}
 use Rattle.word.specs.Fields.{field, gathered}
 use Rattle.word.specs.Word.{bitOf, flag}
@@ -40,6 +39,10 @@ flag-without : (i a b : ℕ) → i < 8 → b < 256 → flag i (bitAnd a (everyVc
 flag-without i a b low byte =
     ap (λ (m : ℕ). eqb m 1) (both-bits i a (everyVcpu - b)) ∙ one-and (field i 1 a) (field i 1 (everyVcpu - b)) (omega arith) (omega arith)
     ∙ ap (λ (q : Bool). flag i a && q) (bit-complement i b low byte)
+
+pub or-same : (p : Bool) → p ≡ (p || p)
+or-same true = refl
+or-same false = refl
 
 -- sources merged twice
 or-either : (p q r : Bool) → ((p || q) || r) ≡ (p || (q || r))

@@ -8,7 +8,6 @@ use lib.Bits.{bitOr}
 use lib.ListN.{getD, set}
 use Rattle.register.specs.declared.frame.AccessWidth.the-variants.{Byte, Dword}
 use Rattle.state.specs.Lent.{shaped}
-use Rattle.history.specs.History.{WriteDistributor}
 use Rattle.corners.specs.Corners.{zeros}
 use Rattle.corners.proofs.Started.{started, computing}
 use Rattle.merging.specs.Merging.{writeThere, OneState, OneWakeSet}

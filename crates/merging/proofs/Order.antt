@@ -1,16 +1,14 @@
 -- Document 02, Six: "ITARGETSR writes to places without a common byte give the same state in either order". So do any two writes at bit registers or byte
 -- arrays, by any vCPUs and of any widths, that have no interrupt's number in common; in any words at all. Assumes nothing.
-use mathlib.Core.Path.{_≡_, refl, sym, ap, subst, _∙_}
+use mathlib.Core.Path.{_≡_, refl, sym, ap, _∙_}
 use mathlib.Core.Bool.{Bool, true, false, cond, true≢false}
 use mathlib.Core.List.{List}
-use mathlib.Core.Logic.{_⊎_, inl, inr}
-use Prim.Native.Nat.{ℕ, _+_, _*_, _-_, _%_, _^_, _≤_, _<_}
+use mathlib.Core.Logic.{inl, inr}
+use Prim.Native.Nat.{ℕ, _+_, _-_, _%_, _^_, _≤_, _<_}
 use native.Mathlib.Nat.{mul-one}
 use native.Mathlib.Omega.{arith}
 use Rattle.register.specs.declared.frame.AccessWidth.{AccessWidth}
 use Rattle.register.specs.declared.frame.Refusal.{Refusal}
-use Rattle.register.specs.declared.frame.Refusal.the-variants.{Vcpu, BrokenState}
-use Rattle.register.specs.declared.ranges.BitRegister.{BitRegister}
 use Rattle.register.specs.declared.ranges.ByteRegister.{ByteRegister}
 use Rattle.register.specs.declared.ranges.ByteRegister.the-variants.{Itargetsr}
 use Rattle.register.specs.declared.ranges.Class.{Class}
@@ -20,7 +18,7 @@ use Rattle.register.specs.declared.distributor.Place.{Place}
 use Rattle.register.specs.declared.distributor.DistributorAccess.{DistributorAccess}
 use Rattle.register.specs.declared.distributor.DistributorAccess.the-variants.{Refused, PrivateWidth, At}
 use Rattle.register.specs.Distributor.{numbersPerByte, firstNumber, placeAt, plain, locateDistributor}
-use Rattle.register.specs.Frame.{refusalNumber, bytes, isDword, isQword}
+use Rattle.register.specs.Frame.{refusalNumber, bytes}
 use Rattle.register.specs.Ranges.{rangeAt, classAt, rangeOf}
 use Rattle.register.proofs.Map.{range-starts, range-of-class}
 use Rattle.register.proofs.Ways.{isSingle, each-access}
@@ -28,12 +26,12 @@ use Rattle.word.specs.Fields.{fieldAt}
 use Rattle.state.specs.declared.layout.Shape.{Shape}
 use Rattle.state.specs.declared.lent.Lent.{Lent}
 use Rattle.state.specs.declared.lent.Lent.the-variants as lent
-use Rattle.state.specs.Layout.{Slot, Room}
+use Rattle.state.specs.Layout.{Slot}
 use Rattle.state.specs.Lent.{validated}
 use Rattle.state.specs.Loop.{upTo}
 use Rattle.state.proofs.Accessors.{records-apart, record-no-sources}
 use Rattle.state.proofs.Numbers.{Of}
-use Rattle.bits.specs.Bits.{fieldBits, perWord, writeNumber, writeBits}
+use Rattle.bits.specs.Bits.{fieldBits, writeNumber, writeBits}
 use Rattle.distributor.specs.Bytes.{writeByte, writeBytes}
 use Rattle.places.specs.Places.{writePlaceLooksUp, writeClass, writePlace, PlaceWritten}
 use Rattle.places.proofs.Fits.{bit-word, byte-run}

@@ -3,7 +3,7 @@
 use mathlib.Core.Path.{_≡_, refl, sym, ap, _∙_}
 use mathlib.Core.Bool.{Bool, true, false, not, cond, _||_, true≢false}
 use mathlib.Core.List.{List}
-use mathlib.Core.Logic.{inl, inr}
+use mathlib.Core.Logic.{inr}
 use Prim.Native.Nat.{ℕ, _/_, _%_, _^_, _<_}
 use native.Mathlib.Omega.{arith}
 use lib.Bits.{bitOr, or-lt, or-self, or-mod}
@@ -23,10 +23,10 @@ use Rattle.sgi.specs.Sgi.{writeSources, pendSgi, sgiTarget, includes, sentTo, s
 use Rattle.sgi.proofs.Rings.{sgi-exists, joined-some}
 use Rattle.places.specs.Places.{names, sends}
 use Rattle.merging.specs.Merging.{SameRing}
-use Rattle.merging.proofs.Joined.{flag-or, or-field}
+use Rattle.merging.proofs.Joined.{flag-or, or-field, or-same}
 use Rattle.merging.proofs.Own.{Own, put-own, then-own, if-own, changed-own, runs-merge}
-use Rattle.merging.proofs.Rising.{Way, Rising, rising-none, run-way}
-use Rattle.merging.proofs.Sources.{same-sources, sources-own, sources-twice}
+use Rattle.merging.proofs.Rising.{Rising, rising-none, run-way}
+use Rattle.merging.proofs.Sources.{same-sources, sources-twice}
 use Rattle.merging.proofs.Ways.{source-way}
 
 -- one vCPU's
@@ -113,10 +113,6 @@ module _ (a b : ℕ) (same : SameRing a b) where
 
   pub both-number : bitOr a b % 16 ≡ a % 16
   both-number = or-mod a b 4 ∙ ap (bitOr (a % 16)) (sym (same .number)) ∙ or-self (a % 16)
-
-  or-same : (p : Bool) → p ≡ (p || p)
-  or-same true = refl
-  or-same false = refl
 
   -- by filter
   sentBy : ℕ → ℕ → SgiTarget

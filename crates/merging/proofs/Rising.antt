@@ -1,6 +1,6 @@
 -- States of which one has all that the other has to hand out. Where records only become readier, or only less ready, step by step, the wake sets of the
 -- steps together are the wake set of them all; where they only become less ready it is empty. The summary is exact. Assumes nothing.
-use mathlib.Core.Path.{_≡_, refl, sym, ap, subst, _∙_}
+use mathlib.Core.Path.{_≡_, refl, sym, ap, _∙_}
 use mathlib.Core.Bool.{Bool, true, false, not, _&&_, _||_, true≢false}
 use mathlib.Core.List.{List}
 use Prim.Native.Nat.{ℕ, zero, suc, _/_, _%_, _^_, _<_}
@@ -13,7 +13,7 @@ use Rattle.interrupt.specs.declared.record.InterruptRecord.{InterruptRecord}
 use Rattle.interrupt.specs.declared.types.Priority.{Priority}
 use Rattle.word.specs.Fields.{gathered}
 use Rattle.word.specs.Word.{bitOf, recordOf, maskByte}
-use Rattle.word.proofs.Gathered.{gathered-same}
+use Rattle.word.proofs.Gathered.{gathered-same, gathered-idle}
 use Rattle.state.specs.declared.layout.Shape.{Shape}
 use Rattle.state.specs.declared.layout.InterfaceValue.{InterfaceValue}
 use Rattle.state.specs.declared.layout.InterfaceValue.the-variants.{Control, PriorityMask, BinaryPoint, Depth}
@@ -25,7 +25,6 @@ use Rattle.state.proofs.Ready.{Summed}
 use Rattle.state.proofs.SlotKinds.{record-kind}
 use Rattle.state.proofs.Steps.{slots, Agree, Local, steps-others}
 use Rattle.state.proofs.Tests.{left-true, right-true}
-use Rattle.select.specs.declared.Candidate.{Candidate}
 use Rattle.select.specs.declared.Selected.{Selected}
 use Rattle.select.specs.declared.Selected.the-variants.{Best, Nothing}
 use Rattle.select.specs.Select.{offered, candidate, candidateByRecord, bothOn}
@@ -240,3 +239,13 @@ module _ (shape : Shape) (s r t : List ℕ) (hs : Sound shape s) (hr : Sound sha
       gathered-or (woken shape s r) (woken shape r t) (shape .count)
       ∙ gathered-same 1 (λ u. bitOf (woken shape s r u || woken shape r t u)) (λ u. bitOf (woken shape s t u)) (shape .count)
       (λ u e. ap bitOf (two-wake shape (hs .state .limits) s r t (depth-same up b) u e ∙ together up a b u e ∙ sym (wakes shape (hs .state .limits) s t u)))
+
+-- a step down wakes nobody
+pub fallen-wakes-nobody : (shape : Shape) (s r : List ℕ) → Sound shape s → Sound shape r → Exact shape s → Exact shape r → Rising shape r s → wakeSet shape s r ≡ 0
+unfolding wakeSet gathered
+fallen-wakes-nobody shape s r hs hr xs xr down = gathered-idle 1 (λ u. bitOf (woken shape s r u)) (shape .count) 0 (omega arith) (λ u a e. ap bitOf (wakes shape (hs .state .limits) s r u ∙ quiet (ready shape u s) (ready shape u r) (room shape u r) (ready-up shape r s hr xr xs down u e)))
+  where
+    quiet : (a b d : Bool) → (b ≡ true → a ≡ true) → (not a && (b && d)) ≡ false
+    quiet true b d ba = refl
+    quiet false true d ba = absurd (true≢false (sym (ba refl)))
+    quiet false false d ba = refl

@@ -7,13 +7,14 @@ use mathlib.Core.List.{List}
 use mathlib.Core.Logic.{inl, inr}
 use Prim.Native.Nat.{ℕ, _-_, _%_, _<_}
 use native.Mathlib.Omega.{arith}
-use lib.Bits.{bitAnd, bitOr, or-zero-l, or-zero-r, and-le-l, and-zero-l}
+use lib.Bits.{bitOr, or-zero-l, or-zero-r, and-zero-l}
 use lib.Dec.{eqb}
-use borrow.Author.Tests.{eqb-true, eqb-false, ne-eqb}
+use borrow.Author.Tests.{ne-eqb}
 use Rattle.interrupt.specs.Types.{everyVcpu, isLevel}
 use Rattle.interrupt.specs.With.{withPending, withRedelivery}
 use Rattle.interrupt.specs.Record.{held, setPending}
 use Rattle.interrupt.specs.declared.record.InterruptRecord.{InterruptRecord}
+use Rattle.register.specs.declared.ranges.BitRegister.the-variants.{Icpendr}
 use Rattle.word.specs.Word.{recordOf, wordOf}
 use Rattle.word.proofs.Cases.{same-or}
 use Rattle.word.proofs.RecordWord.{decoded-in-range}
@@ -26,6 +27,7 @@ use Rattle.state.proofs.Ready.{put-put, put-comm}
 use Rattle.state.proofs.Steps.{Agree}
 use Rattle.sgi.specs.Sgi.{pendBySources, sourced, mergedSources, writeSources}
 use Rattle.sgi.proofs.Rings.{sgi-exists, merged-fits, pended}
+use Rattle.merging.proofs.Bits.{act-again}
 use Rattle.merging.proofs.Joined.{merged-again, some-right}
 use Rattle.merging.proofs.Own.{Own, put-own, then-own, unless-own}
 
@@ -34,17 +36,13 @@ abbrev pub Pends : Shape → ℕ → ℕ → List ℕ → Type 0
 Pends shape v n s = (sourcesAt shape v n s ≡ 0 → ⊥) → recordAt shape v n s .pending ≡ true
 
 -- pending by what is left, and then by what is left of that
-kept : (l p : Bool) → cond l (cond l p false) false ≡ cond l p false
-kept true p = refl
-kept false p = refl
-
 pend-again : (p q : Bool) (r : InterruptRecord) → (p ≡ true → q ≡ false → r .pending ≡ true) → (p ≡ false → q ≡ false) → setPending (setPending r p) q ≡ setPending r q
 unfolding setPending held
 pend-again true true r on off = refl
 pend-again true false r on off =
     ap (λ (b : Bool). withRedelivery false (withPending (cond (isLevel (r .trigger) && r .«line_asserted») b false) r)) (sym (on refl refl))
 pend-again false true r on off = absurd (true≢false (off refl))
-pend-again false false r on off = ap (λ (b : Bool). withRedelivery false (withPending b r)) (kept (isLevel (r .trigger) && r .«line_asserted») (r .pending))
+pend-again false false r on off = act-again Icpendr 0 0 r
 
 some : (x : ℕ) → not (eqb x 0) ≡ true → x ≡ 0 → ⊥
 some x e p = true≢false (sym e ∙ rw p)

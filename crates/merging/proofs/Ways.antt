@@ -7,9 +7,9 @@ use Prim.Native.Nat.{ℕ, _+_, _-_, _<_}
 use native.Mathlib.Omega.{arith}
 use lib.Bits.{and-le-l}
 use lib.Dec.{eqb, ltb}
-use borrow.Author.Tests.{eqb-true, ne-eqb, ltb-true}
+use borrow.Author.Tests.{ne-eqb, ltb-true}
 use Rattle.interrupt.specs.Types.{everyVcpu, isLevel}
-use Rattle.interrupt.specs.Record.{setEnabled, held, setPending, setActive, cancelInflight, setTrigger, setOwner, isReady}
+use Rattle.interrupt.specs.Record.{setEnabled, held, setPending, setActive, cancelInflight, setTrigger, setOwner}
 use Rattle.interrupt.specs.declared.record.InterruptRecord.{InterruptRecord}
 use Rattle.interrupt.specs.declared.record.Owner.the-variants.{Nobody}
 use Rattle.register.specs.declared.ranges.BitRegister.{BitRegister}
@@ -21,7 +21,6 @@ use Rattle.word.proofs.RecordWord.{decoded-in-range, decode-encode}
 use Rattle.state.specs.declared.layout.Shape.{Shape}
 use Rattle.state.specs.Layout.{Sources, Spi, Exists, Limits, Room, kindOf, isRecord}
 use Rattle.state.specs.Words.{wordAt, put, recordSlot, recordAt, changed, sourcesAt, Exact}
-use Rattle.state.proofs.Accessors.{put-room}
 use Rattle.state.proofs.Numbers.{Of}
 use Rattle.state.proofs.Ready.{Anywhere, Summed, summed-kept}
 use Rattle.state.proofs.SlotKinds.{record-kind}
@@ -30,21 +29,15 @@ use Rattle.bits.specs.Bits.{fieldBits, perWord, acts, clearActive, act, writeNu
 use Rattle.bits.proofs.Registers.{act-in-range}
 use Rattle.sgi.specs.Sgi.{mergedSources, writeSources}
 use Rattle.sgi.proofs.Rings.{sgi-exists, merged-fits, pended}
+use Rattle.merging.specs.Merging.{clears}
 use Rattle.merging.proofs.Bits.{numbers-apart, word-there, field-own}
 use Rattle.merging.proofs.Joined.{some-right}
 use Rattle.merging.proofs.Rising.{Way, Rises, Rising, rises-none, way-none, way-then, record-way, sources-way, run-way}
 use Rattle.merging.proofs.Sources.{Pends, both, sourced-both, record-behind}
 
--- the way of a bit register's write: up, where it makes a record readier
+-- the way of a bit register's write: up, where it may make a record readier
 abbrev pub raises : BitRegister → Bool
-raises Igroupr = true
-raises Isenabler = true
-raises Icenabler = false
-raises Ispendr = true
-raises Icpendr = false
-raises Isactiver = false
-raises Icactiver = true
-raises Icfgr = true
+raises register = not (clears register)
 
 -- enabled, pending, not active: each of them may be made so
 made-true : (e p a : Bool) → ((e && p) && not a) ≡ true → (e ≡ true) × ((p ≡ true) × (not a ≡ true))

@@ -1,11 +1,10 @@
 -- Two writes at a place of the Distributor are one, and which way they go, for every class of place. Assumes nothing.
-use mathlib.Core.Path.{_≡_, refl, sym, ap, subst, _∙_}
+use mathlib.Core.Path.{_≡_, refl, sym, ap, _∙_}
 use mathlib.Core.Bool.{Bool, true, false, not, cond, true≢false}
 use mathlib.Core.List.{List}
-use Prim.Native.Nat.{ℕ, _+_, _/_, _%_, _^_, _<_}
+use Prim.Native.Nat.{ℕ, _+_, _%_, _^_, _<_}
 use native.Mathlib.Omega.{arith}
 use lib.Bits.{bitOr, or-mod}
-use lib.Dec.{eqb}
 use borrow.Author.Tests.{ne-eqb}
 use Rattle.interrupt.specs.Record.{setPending}
 use Rattle.interrupt.specs.declared.record.InterruptRecord.{InterruptRecord}
@@ -20,24 +19,24 @@ use Rattle.register.specs.Frame.{bytes}
 use Rattle.word.specs.Fields.{fieldAt}
 use Rattle.word.proofs.Cases.{same-or}
 use Rattle.state.specs.declared.layout.Shape.{Shape}
-use Rattle.state.specs.Layout.{DistributorControl, Sources, Exists, Limits, Room}
+use Rattle.state.specs.Layout.{DistributorControl, Sources, Exists, Room}
 use Rattle.state.specs.Words.{recordAt, sourcesAt, keptDistributorControl, Exact}
 use Rattle.state.proofs.Numbers.{Of}
 use Rattle.state.proofs.Ready.{Summed, put-put}
 use Rattle.bits.specs.Bits.{isConfig, BitWordAt}
 use Rattle.sgi.specs.Sgi.{mergedSources, writeSources, sgiTarget, sendSgi, writeSgir}
-use Rattle.sgi.proofs.Rings.{merged-fits, written-sources, written-pends}
+use Rattle.sgi.proofs.Rings.{written-sources, written-pends}
 use Rattle.distributor.specs.Bytes.{writeByte, writeBytes, ByteThere, BytesAt}
 use Rattle.distributor.proofs.Registers.{bytes-written}
 use Rattle.places.specs.Places.{sends, ringed, writeClass, writePlace, PlaceWritten}
 use Rattle.places.proofs.Fits.{bit-word, byte-run}
-use Rattle.merging.specs.Merging.{SameRing, MayMerge, asOne, bitsAsOne, bytesAsOne, wakesAdd}
+use Rattle.merging.specs.Merging.{SameRing, MayMerge, asOne, wakesAdd, wakesNobody}
 use Rattle.merging.proofs.Bits.{bits-as-one, numbers-apart}
 use Rattle.merging.proofs.Bytes.{ByteNeeds, needs-kept, bytes-as-one, run-own}
 use Rattle.merging.proofs.Rings.{sent-as-one, sent-way, both-number, both-includes, first-sends, second-sends}
 use Rattle.merging.proofs.Rising.{Way, Rising, way-none, run-way}
-use Rattle.merging.proofs.Sources.{Pends, pends-kept}
-use Rattle.merging.proofs.Ways.{raises, bits-way, source-way}
+use Rattle.merging.proofs.Sources.{Pends}
+use Rattle.merging.proofs.Ways.{bits-way, source-way}
 
 -- what a write is, of its low 32 bits
 pub mod-as-one : (c : Class) (a b : ℕ) → asOne c a b % 2 ^ 32 ≡ asOne c (a % 2 ^ 32) (b % 2 ^ 32)
@@ -99,10 +98,7 @@ rings-as-one shape v x y s h looked may = go (sends x) refl
 
 -- one byte: which way, and what it leaves
 abbrev byteRaises : ByteRegister → Bool
-byteRaises Ipriorityr = true
-byteRaises Itargetsr = true
-byteRaises Cpendsgir = false
-byteRaises Spendsgir = true
+byteRaises register = not (wakesNobody (Bytes register))
 
 byte-way : (shape : Shape) (register : ByteRegister) (v n byte : ℕ) → wakesAdd (Bytes register) ≡ true → byte < 256 → ByteThere shape register v n → (s : List ℕ) → Summed shape s
     → ByteNeeds shape register v n s → Way (byteRaises register) (Rising shape) s (writeByte shape register v n byte s) × Summed shape (writeByte shape register v n byte s)
@@ -143,13 +139,7 @@ module _ (shape : Shape) (register : ByteRegister) (v first count value : ℕ) (
 
 -- a write at a place
 abbrev pub classRaises : Class → Bool
-classRaises Ctlr = true
-classRaises Typer = true
-classRaises Iidr = true
-classRaises Sgir = true
-classRaises (Bits register) = raises register
-classRaises (Bytes register) = byteRaises register
-classRaises Other = true
+classRaises c = not (wakesNobody c)
 
 module _ (shape : Shape) (v : ℕ) (place : Place) (w : AccessWidth) (x : ℕ) (s : List ℕ) (at : PlaceWritten shape v place w x s) where
   abbrev first : ℕ
@@ -177,8 +167,8 @@ module _ (shape : Shape) (v : ℕ) (place : Place) (w : AccessWidth) (x : ℕ) (
   way-by : (c : Class) → place .class ≡ c → wakesAdd c ≡ true → ClassNeeds shape v c first w s → Exact shape s
       → Way (classRaises c) (Rising shape) s (writeClass shape v c first w x s) × Summed shape (writeClass shape v c first w x s)
   way-by Ctlr e adds need exact = absurd (true≢false (sym adds))
-  way-by Typer e adds need exact = (way-none true shape s, (at .state, exact))
-  way-by Iidr e adds need exact = (way-none true shape s, (at .state, exact))
+  way-by Typer e adds need exact = (way-none false shape s, (at .state, exact))
+  way-by Iidr e adds need exact = (way-none false shape s, (at .state, exact))
   way-by Sgir e adds need exact = go (sends x) refl
     where
       go : (b : Bool) → sends x ≡ b → Rising shape s (cond b (writeSgir shape v x s) s) × Summed shape (cond b (writeSgir shape v x s) s)
@@ -187,7 +177,7 @@ module _ (shape : Shape) (v : ℕ) (place : Place) (w : AccessWidth) (x : ℕ) (
       go false sent = (way-none true shape s, (at .state, exact))
   way-by (Bits register) e adds need exact = bits-way shape register v first x s (word-at register e) exact
   way-by (Bytes register) e adds need exact = bytes-way shape register v first (bytes w) x s (run-at register e) need adds exact
-  way-by Other e adds need exact = (way-none true shape s, (at .state, exact))
+  way-by Other e adds need exact = (way-none false shape s, (at .state, exact))
 
   leaves-by : (c : Class) → place .class ≡ c → ClassNeeds shape v c first w s → ClassNeeds shape v c first w (writeClass shape v c first w x s)
   leaves-by Ctlr e need = tt

@@ -5,9 +5,10 @@ use mathlib.Core.Bool.{Bool, true, false, cond}
 use mathlib.Core.List.{List}
 use mathlib.Core.Logic.{_⊎_}
 use Prim.Native.Nat.{ℕ, _+_, _/_, _%_, _^_, _≤_}
-use lib.Bits.{bitAnd, bitOr}
+use lib.Bits.{bitOr}
 use Rattle.register.specs.declared.frame.AccessWidth.{AccessWidth}
 use Rattle.register.specs.declared.ranges.BitRegister.{BitRegister}
+use Rattle.register.specs.declared.ranges.BitRegister.the-variants.{Igroupr, Isenabler, Icenabler, Ispendr, Icpendr, Isactiver, Icactiver, Icfgr}
 use Rattle.register.specs.declared.ranges.ByteRegister.{ByteRegister}
 use Rattle.register.specs.declared.ranges.ByteRegister.the-variants.{Ipriorityr, Itargetsr, Cpendsgir, Spendsgir}
 use Rattle.register.specs.declared.ranges.Class.{Class}
@@ -112,6 +113,29 @@ wakesAdd (Bytes Itargetsr) = false
 wakesAdd (Bytes Cpendsgir) = true
 wakesAdd (Bytes Spendsgir) = true
 wakesAdd Other = true
+
+-- where a write wakes nobody: nothing is made readier by it
+abbrev pub clears : BitRegister → Bool
+clears Igroupr = true
+clears Isenabler = false
+clears Icenabler = true
+clears Ispendr = false
+clears Icpendr = true
+clears Isactiver = true
+clears Icactiver = false
+clears Icfgr = true
+
+abbrev pub wakesNobody : Class → Bool
+wakesNobody Ctlr = false
+wakesNobody Typer = true
+wakesNobody Iidr = true
+wakesNobody Sgir = false
+wakesNobody (Bits register) = clears register
+wakesNobody (Bytes Ipriorityr) = false
+wakesNobody (Bytes Itargetsr) = false
+wakesNobody (Bytes Cpendsgir) = true
+wakesNobody (Bytes Spendsgir) = false
+wakesNobody Other = true
 
 -- "the same state in either order"
 abbrev pub EitherOrder : (List ℕ → Outcome) → (List ℕ → Outcome) → List ℕ → Type 0

@@ -125,8 +125,17 @@ impl<'a> Case<'a> {
         self.both.states[1] == self.one.states[0]
     }
 
+    fn together(&self) -> u64 {
+        self.both.wakes[0] | self.both.wakes[1]
+    }
+
     fn is_same_wake(&self) -> bool {
-        self.both.wakes[0] | self.both.wakes[1] == self.one.wakes[0]
+        self.together() == self.one.wakes[0]
+    }
+
+    /// Whether the two tell of everybody whom the one tells of.
+    fn wakes_no_less(&self) -> bool {
+        self.one.wakes[0] & !self.together() == 0
     }
 
     fn is_silent(&self) -> bool {
@@ -155,7 +164,7 @@ impl<'a> Case<'a> {
             Some("refusal")
         } else if says_state && !self.is_same_state() {
             Some("state")
-        } else if !wake {
+        } else if !wake || self.is_same_state() && !self.wakes_no_less() {
             Some("wake set")
         } else if nothing && !(self.is_untouched() && self.is_silent()) {
             Some("nothing")
@@ -296,7 +305,7 @@ const LEAST: [(&str, u64, &str, u64); 13] = [
     ("ICACTIVER", 200, "woke", 100),
     ("CPENDSGIR", 200, "silenced", 10),
     ("SPENDSGIR", 4000, "woke", 1000),
-    ("SGIR", 800, "both woke", 50),
+    ("SGIR", 500, "both woke", 30),
     ("ICFGR", 4000, "across the limit", 1000),
     // Here the wake sets are not the later write's.
     ("CTLR", 1000, "other wake set", 500),
@@ -323,6 +332,7 @@ fn expect_cases(tally: &Tally) {
             tally.expect(register.name, kind, "accepted", 2000);
         }
         tally.expect("ISENABLER", kind, "pended", 100); // a held line
+        tally.expect("SGIR", kind, "not by a list", 400);
         tally.expect("SGIR", kind, "not claimed, other state", 400);
     }
 }
@@ -341,6 +351,10 @@ fn see_case(tally: &mut Tally, state: &State, at: Place, values: (u64, u64)) {
     };
     if let Some(what) = case.broken() {
         panic!("{what}: {at:x?} {values:x?}: {}", state.shown());
+    }
+    let by_list = case.register.rule != Rule::Rings || values.0 >> 24 & 3 == 0;
+    if !by_list && !case.is_untouched() {
+        tally.note(case.register.name, state.kind, "not by a list");
     }
     case.note(tally);
 }

@@ -135,7 +135,7 @@ impl Cast {
 
     /// An SGI of the cast, mostly by filter 0; bits that count for nothing at times.
     fn ring(&self, random: &mut Random) -> u64 {
-        let filter = random.pick(&[0, 0, 0, 0, 1, 2, 3]);
+        let filter = random.pick(&[0, 0, 0, 0, 0, 0, 1, 2, 3]);
         let nothing = random.number() & random.pick(&[0, 0xfc00_fff0]);
         self.sgi(random) | self.mask(random) << 16 | filter << 24 | nothing
     }
@@ -155,12 +155,12 @@ impl Cast {
         }
     }
 
-    /// Two values for one place; two rings are mostly of one SGI and by filter 0, else nothing is said of them.
+    /// Two values for one place; two rings are mostly of one SGI and by one filter, else nothing is said of them.
     pub fn two_values(&self, random: &mut Random, at: Place) -> (u64, u64) {
-        let (mut a, mut b) = (self.value(random, at), self.value(random, at));
+        let (a, mut b) = (self.value(random, at), self.value(random, at));
         if registers::at(at.offset).rule == Rule::Rings && random.percent(90) {
-            a &= !(3 << 24);
-            b = b & !(3 << 24) & !15 | a & 15;
+            let same = 3 << 24 | 15;
+            b = b & !same | a & same;
         }
         match random.below(12) {
             0 => (a, a),

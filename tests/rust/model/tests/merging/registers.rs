@@ -7,7 +7,7 @@ use types::register::*;
 pub enum Rule {
     /// The state of one write of `a | b`, and its wake set.
     Adds,
-    /// The same, if both have filter 0 and the same SGI.
+    /// The same, if both have the same filter and the same SGI.
     Rings,
     /// The state of `b` alone; the wake sets may be others.
     Later,
@@ -19,7 +19,7 @@ pub enum Rule {
 impl Rule {
     /// The one write that the two are held against; none where nothing is said of them.
     pub fn merged(self, a: u64, b: u64) -> Option<u64> {
-        let same_ring = (a | b) >> 24 & 3 == 0 && a & 15 == b & 15;
+        let same_ring = (a ^ b) >> 24 & 3 == 0 && (a ^ b) & 15 == 0;
         match self {
             Rule::Adds => Some(a | b),
             Rule::Rings => same_ring.then_some(a | b),
