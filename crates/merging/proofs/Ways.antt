@@ -29,7 +29,7 @@ use Rattle.bits.specs.Bits.{fieldBits, perWord, acts, clearActive, act, writeNu
 use Rattle.bits.proofs.Registers.{act-in-range}
 use Rattle.sgi.specs.Sgi.{mergedSources, writeSources}
 use Rattle.sgi.proofs.Rings.{sgi-exists, merged-fits, pended}
-use Rattle.merging.specs.Merging.{clears}
+use Rattle.merging.specs.Merging.{readiesNone}
 use Rattle.merging.proofs.Bits.{numbers-apart, word-there, field-own}
 use Rattle.merging.proofs.Joined.{some-right}
 use Rattle.merging.proofs.Rising.{Way, Rises, Rising, rises-none, way-none, way-then, record-way, sources-way, run-way}
@@ -37,7 +37,7 @@ use Rattle.merging.proofs.Sources.{Pends, both, sourced-both, record-be
 
 -- the way of a bit register's write: up, where it may make a record readier
 abbrev pub raises : BitRegister → Bool
-raises register = not (clears register)
+raises register = not (readiesNone register)
 
 -- enabled, pending, not active: each of them may be made so
 made-true : (e p a : Bool) → ((e && p) && not a) ≡ true → (e ≡ true) × ((p ≡ true) × (not a ≡ true))

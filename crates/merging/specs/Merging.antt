@@ -115,22 +115,22 @@ wakesAdd (Bytes Spendsgir) = true
 wakesAdd Other = true
 
 -- where a write wakes nobody: nothing is made readier by it
-abbrev pub clears : BitRegister → Bool
-clears Igroupr = true
-clears Isenabler = false
-clears Icenabler = true
-clears Ispendr = false
-clears Icpendr = true
-clears Isactiver = true
-clears Icactiver = false
-clears Icfgr = true
+abbrev pub readiesNone : BitRegister → Bool
+readiesNone Igroupr = true
+readiesNone Isenabler = false
+readiesNone Icenabler = true
+readiesNone Ispendr = false
+readiesNone Icpendr = true
+readiesNone Isactiver = true
+readiesNone Icactiver = false
+readiesNone Icfgr = true
 
 abbrev pub wakesNobody : Class → Bool
 wakesNobody Ctlr = false
 wakesNobody Typer = true
 wakesNobody Iidr = true
 wakesNobody Sgir = false
-wakesNobody (Bits register) = clears register
+wakesNobody (Bits register) = readiesNone register
 wakesNobody (Bytes Ipriorityr) = false
 wakesNobody (Bytes Itargetsr) = false
 wakesNobody (Bytes Cpendsgir) = true
