@@ -225,10 +225,7 @@ pub starting-in-range : (n : ℕ) → InRange (startingRecord (record { 0 = n })
 unfolding startingRecord newRecord
 starting-in-range n = record { priority-byte = omega arith; mask-byte = omega arith; owner-byte = tt }
 
--- up to the records of the SPIs a word starts as its slot, and past them as 0
-pub head-starts : (shape : Shape) (k : ℕ) → k < spiEnd shape → startAt shape k ≡ startOf shape (slotAt shape k)
-head-starts shape k h = rw (before-summary shape k h)
-
+-- past the records of the SPIs a word starts as 0
 pub tail-starts : (shape : Shape) (k : ℕ) → spiEnd shape ≤ k → startAt shape k ≡ 0
 tail-starts shape k h = rw (past-spis shape k h) (go (inSummary shape k))
   where
