@@ -45,7 +45,7 @@ or-same true = refl
 or-same false = refl
 
 -- sources merged twice
-or-either : (p q r : Bool) → ((p || q) || r) ≡ (p || (q || r))
+pub or-either : (p q r : Bool) → ((p || q) || r) ≡ (p || (q || r))
 or-either true q r = refl
 or-either false q r = refl
 

@@ -9,6 +9,7 @@ pub mod Ways
 pub mod Rings
 pub mod Writes
 pub mod Calls
+pub mod Rows
 pub mod Order
 pub mod Where
 pub mod Needed

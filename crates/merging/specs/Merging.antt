@@ -2,7 +2,7 @@
 -- nothing between them, come to. docs/MERGING.md says it to the kernel team, with what may not be merged.
 use mathlib.Core.Path.{_≡_}
 use mathlib.Core.Bool.{Bool, true, false, cond}
-use mathlib.Core.List.{List}
+use mathlib.Core.List.{List, [], _∷_}
 use mathlib.Core.Logic.{_⊎_}
 use Prim.Native.Nat.{ℕ, _+_, _/_, _%_, _^_, _≤_}
 use lib.Bits.{bitOr}
@@ -113,6 +113,23 @@ wakesAdd (Bytes Itargetsr) = false
 wakesAdd (Bytes Cpendsgir) = true
 wakesAdd (Bytes Spendsgir) = true
 wakesAdd Other = true
+
+-- a row of writes, one after another: the state after it, its wake sets together, and the one write
+abbrev pub rowState : (ℕ → List ℕ → Outcome) → List ℕ → List ℕ → List ℕ
+rowState write [] s = s
+rowState write (b ∷ bs) s = rowState write bs (write b s .state)
+
+abbrev pub rowWakes : (ℕ → List ℕ → Outcome) → List ℕ → List ℕ → ℕ
+rowWakes write [] s = 0
+rowWakes write (b ∷ bs) s = bitOr (write b s .wake) (rowWakes write bs (write b s .state))
+
+abbrev pub rowAsOne : Class → ℕ → List ℕ → ℕ
+rowAsOne class a [] = a
+rowAsOne class a (b ∷ bs) = rowAsOne class (asOne class a b) bs
+
+abbrev pub RowMayMerge : Class → ℕ → List ℕ → Type 0
+RowMayMerge class a [] = Unit
+RowMayMerge class a (b ∷ bs) = MayMerge class a b × RowMayMerge class a bs
 
 -- where a write wakes nobody: nothing is made readier by it
 abbrev pub readiesNone : BitRegister → Bool
