@@ -81,7 +81,8 @@ byte-as-one Itargetsr i a b = refl
 byte-as-one Cpendsgir i a b = sym (or-field (8 * i) 8 a b)
 byte-as-one Spendsgir i a b = sym (or-field (8 * i) 8 a b)
 
-pub needs-kept : (shape : Shape) (register : ByteRegister) (v n : ℕ) → Limits shape → ByteThere shape register v n → (s r : List ℕ) → Agree shape (Of v n) r s → ByteNeeds shape register v n s → ByteNeeds shape register v n r
+pub needs-kept : (shape : Shape) (register : ByteRegister) (v n : ℕ) → Limits shape → ByteThere shape register v n → (s r : List ℕ) → Agree shape (Of v n) r s
+    → ByteNeeds shape register v n s → ByteNeeds shape register v n r
 needs-kept shape Ipriorityr v n l there s r a need = tt
 needs-kept shape Itargetsr v n l there s r a need = tt
 needs-kept shape Cpendsgir v n l there s r a need = pends-kept shape v n l there s r a need

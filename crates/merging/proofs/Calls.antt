@@ -7,10 +7,8 @@ use Prim.Native.Nat.{ℕ, _+_, _%_, _^_, _<_}
 use lib.Bits.{bitOr, or-zero-r}
 use borrow.Author.Tests.{ne-eqb}
 use Rattle.register.specs.declared.frame.AccessWidth.{AccessWidth}
-use Rattle.register.specs.declared.frame.AccessWidth.the-variants.{Dword}
 use Rattle.register.specs.declared.frame.Refusal.{Refusal}
 use Rattle.register.specs.declared.frame.Refusal.the-variants.{Vcpu, BrokenState}
-use Rattle.register.specs.declared.ranges.BitRegister.the-variants.{Isenabler}
 use Rattle.register.specs.declared.ranges.ByteRegister.{ByteRegister}
 use Rattle.register.specs.declared.ranges.ByteRegister.the-variants.{Ipriorityr, Itargetsr, Cpendsgir, Spendsgir}
 use Rattle.register.specs.declared.ranges.Class.{Class}
@@ -81,7 +79,8 @@ module _ (v offset : ℕ) (width : AccessWidth) (place : Place) (located : locat
 
   -- one write alone, where nothing is made readier
   module _ (shape : Shape) (s : List ℕ) (h : validated s ≡ lent.Sound shape) (exact : Exact shape s) (a : ℕ) where
-    pub none-woken : wakesAdd (place .class) ≡ true → wakesNobody (place .class) ≡ true → (PlaceWritten shape v place width (a % 2 ^ 32) s → ClassNeeds shape v (place .class) (place .first .0) width s) → write a s .wake ≡ 0
+    pub none-woken : wakesAdd (place .class) ≡ true → wakesNobody (place .class) ≡ true
+        → (PlaceWritten shape v place width (a % 2 ^ 32) s → ClassNeeds shape v (place .class) (place .first .0) width s) → write a s .wake ≡ 0
     none-woken adds nobody need = ap (λ (o : Outcome). o .wake) (written a s shape h (looks (a % 2 ^ 32)) refl) ∙ go (absent (looks (a % 2 ^ 32)) shape v) refl
       where
         r : List ℕ
@@ -303,12 +302,3 @@ nobody-is-woken v offset width class at nobody a s d =
     let none = ap wakesNobody (at .is) ∙ nobody in
     none-woken v offset width (at .place) (at .located) (d .shape) s (held-validated s (d .shape) (d .holds)) (d .orderly .summary) a (nobody-adds (at .place .class) none) none
     (λ written. class-needed (d .shape) v (at .place) width (a % 2 ^ 32) s written (at .place .class) refl (d .orderly))
-
--- "set-enable with a and then with b leaves the state of one write with the bits of both, and the two wake sets together are that write's wake set"
-pub set-enable-adds-up : (v offset a b : ℕ) → PlacedAs offset Dword (Bits Isenabler) → (s : List ℕ) → Described s
-    → OneState (writeThere v offset Dword) a b (bitOr a b) s × OneWakeSet (writeThere v offset Dword) a b (bitOr a b) s
-set-enable-adds-up v offset a b at s d = (two-writes-are-one v offset Dword (Bits Isenabler) at a b tt s tt, wake-sets-add-up v offset Dword (Bits Isenabler) at refl a b tt s d)
-
--- "of two ITARGETSR writes only the later counts for the state": in any words at all
-pub later-target-counts : (v offset a b : ℕ) → PlacedAs offset Dword (Bytes Itargetsr) → (s : List ℕ) → OneState (writeThere v offset Dword) a b b s
-later-target-counts v offset a b at s = two-writes-are-one v offset Dword (Bytes Itargetsr) at a b tt s tt

@@ -11,5 +11,6 @@ pub mod Writes
 pub mod Calls
 pub mod Rows
 pub mod Order
+pub mod Asked
 pub mod Where
 pub mod Needed

@@ -1,5 +1,5 @@
--- Document 02, Six: "ITARGETSR writes to places without a common byte give the same state in either order". So do any two writes at bit registers or byte
--- arrays, by any vCPUs and of any widths, that have no interrupt's number in common; in any words at all. Assumes nothing.
+-- Any two writes at bit registers or byte arrays, by any vCPUs and of any widths, that have no interrupt's number in common give the same state in either
+-- order; in any words at all. Assumes nothing.
 use mathlib.Core.Path.{_≡_, refl, sym, ap, _∙_}
 use mathlib.Core.Bool.{Bool, true, false, cond, true≢false}
 use mathlib.Core.List.{List}
@@ -10,7 +10,6 @@ use native.Mathlib.Omega.{arith}
 use Rattle.register.specs.declared.frame.AccessWidth.{AccessWidth}
 use Rattle.register.specs.declared.frame.Refusal.{Refusal}
 use Rattle.register.specs.declared.ranges.ByteRegister.{ByteRegister}
-use Rattle.register.specs.declared.ranges.ByteRegister.the-variants.{Itargetsr}
 use Rattle.register.specs.declared.ranges.Class.{Class}
 use Rattle.register.specs.declared.ranges.Class.the-variants.{Ctlr, Typer, Iidr, Sgir, Bits, Bytes, Other}
 use Rattle.register.specs.declared.ranges.RegisterRange.{RegisterRange}
@@ -223,7 +222,7 @@ module _ (o : ℕ) (w : AccessWidth) (register : ByteRegister) where
           let same : placeAt o ≡ p = cc in
           ap (λ (k : Place). k .first .0 + rangeOf (Bytes register) .first) (sym same) ∙ at-number (class-there ∙ ap (λ (k : Place). k .class) same ∙ is)
 
--- "ITARGETSR writes to places without a common byte give the same state in either order": as of ITARGETSR so of each byte array
+-- a byte array's, by their bytes
 pub bytes-in-either-order : (v u o o′ : ℕ) (w w′ : AccessWidth) (register : ByteRegister) → PlacedAs o w (Bytes register) → PlacedAs o′ w′ (Bytes register) → NoCommonByte o w o′ w′
     → (a b : ℕ) (s : List ℕ) → EitherOrder (writeThere v o w a) (writeThere u o′ w′ b) s
 bytes-in-either-order v u o o′ w w′ register at at′ apart a b s =
@@ -238,7 +237,3 @@ bytes-in-either-order v u o o′ w w′ register at at′ apart a b s =
     numbers : NoCommonByte o w o′ w′ → NoCommonNumber (at .place) w (at′ .place) w′
     numbers (inl k) = inl (rw (at .is) (omega (arith, k, here, there)))
     numbers (inr k) = inr (rw (at′ .is) (omega (arith, k, here, there)))
-
-pub targets-in-either-order : (v u o o′ : ℕ) (w w′ : AccessWidth) → PlacedAs o w (Bytes Itargetsr) → PlacedAs o′ w′ (Bytes Itargetsr) → NoCommonByte o w o′ w′
-    → (a b : ℕ) (s : List ℕ) → EitherOrder (writeThere v o w a) (writeThere u o′ w′ b) s
-targets-in-either-order v u o o′ w w′ at at′ apart a b s = bytes-in-either-order v u o o′ w w′ Itargetsr at at′ apart a b s

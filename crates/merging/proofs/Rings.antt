@@ -114,43 +114,35 @@ module _ (a b : ℕ) (same : SameRing a b) where
   pub both-number : bitOr a b % 16 ≡ a % 16
   both-number = or-mod a b 4 ∙ ap (bitOr (a % 16)) (sym (same .number)) ∙ or-self (a % 16)
 
-  -- by filter
-  sentBy : ℕ → ℕ → SgiTarget
-  sentBy f value = cond (eqb f 0) (Mask (value / 2 ^ 16 % 256)) (cond (eqb f 1) AllExceptSelf (cond (eqb f 2) SelfOnly Nobody))
+  -- by filter: 0 lists whom it sends to, and of 1 to 3 the filter alone says it
+  abbrev unlisted : ℕ → SgiTarget
+  unlisted f = cond (eqb f 1) AllExceptSelf (cond (eqb f 2) SelfOnly Nobody)
 
-  target-by : (value f : ℕ) → value / 2 ^ 24 % 4 ≡ f → sgiTarget value ≡ sentBy f value
-  unfolding sgiTarget sentBy
+  abbrev sentBy : Bool → SgiTarget → ℕ → SgiTarget
+  sentBy lists others value = cond lists (Mask (value / 2 ^ 16 % 256)) others
+
+  target-by : (value f : ℕ) → value / 2 ^ 24 % 4 ≡ f → sgiTarget value ≡ sentBy (eqb f 0) (unlisted f) value
+  unfolding sgiTarget
   target-by value f e = rw e
 
-  module _ (source u : ℕ) where
-    -- of filters 1 to 3 it is the filter alone that says it
-    others : (p q : Bool) → includes (cond p AllExceptSelf (cond q SelfOnly Nobody)) source u ≡ (includes (cond p AllExceptSelf (cond q SelfOnly Nobody)) source u || includes (cond p AllExceptSelf (cond q SelfOnly Nobody)) source u)
-    others p q = or-same (includes (cond p AllExceptSelf (cond q SelfOnly Nobody)) source u)
+  both-sent : (source u : ℕ) (lists : Bool) (others : SgiTarget) → includes (sentBy lists others (bitOr a b)) source u ≡ (includes (sentBy lists others a) source u || includes (sentBy lists others b) source u)
+  both-sent source u true others = ap (λ (m : ℕ). includes (Mask m) source u) (or-field 16 8 a b) ∙ flag-or u (a / 2 ^ 16 % 256) (b / 2 ^ 16 % 256)
+  both-sent source u false others = or-same (includes others source u)
 
-    both-sent : (p q r : Bool) → includes (cond p (Mask (bitOr a b / 2 ^ 16 % 256)) (cond q AllExceptSelf (cond r SelfOnly Nobody))) source u
-        ≡ (includes (cond p (Mask (a / 2 ^ 16 % 256)) (cond q AllExceptSelf (cond r SelfOnly Nobody))) source u || includes (cond p (Mask (b / 2 ^ 16 % 256)) (cond q AllExceptSelf (cond r SelfOnly Nobody))) source u)
-    both-sent true q r = ap (λ (m : ℕ). includes (Mask m) source u) (or-field 16 8 a b) ∙ flag-or u (a / 2 ^ 16 % 256) (b / 2 ^ 16 % 256)
-    both-sent false q r = others q r
+  pub both-includes : (source u : ℕ) → includes (sgiTarget (bitOr a b)) source u ≡ (includes (sgiTarget a) source u || includes (sgiTarget b) source u)
+  both-includes source u =
+      let f : ℕ = a / 2 ^ 24 % 4 in
+      ap (λ (t : SgiTarget). includes t source u) (target-by (bitOr a b) f both-filter)
+      ∙ both-sent source u (eqb f 0) (unlisted f)
+      ∙ sym (λ i. includes (target-by a f refl i) source u || includes (target-by b f (sym (same .filter)) i) source u)
 
-    pub both-includes : includes (sgiTarget (bitOr a b)) source u ≡ (includes (sgiTarget a) source u || includes (sgiTarget b) source u)
-    unfolding sentBy
-    both-includes =
-        let f : ℕ = a / 2 ^ 24 % 4 in
-        ap (λ (t : SgiTarget). includes t source u) (target-by (bitOr a b) f both-filter)
-        ∙ both-sent (eqb f 0) (eqb f 1) (eqb f 2)
-        ∙ sym (λ i. includes (target-by a f refl i) source u || includes (target-by b f (sym (same .filter)) i) source u)
-
-  -- whether anybody is looked up goes by the filter too
-  names-by : (f x y : ℕ) → names (sentBy f x) ≡ names (sentBy f y)
-  unfolding sentBy
-  names-by f x y = go (eqb f 0)
-    where
-      go : (p : Bool) → names (cond p (Mask (x / 2 ^ 16 % 256)) (cond (eqb f 1) AllExceptSelf (cond (eqb f 2) SelfOnly Nobody))) ≡ names (cond p (Mask (y / 2 ^ 16 % 256)) (cond (eqb f 1) AllExceptSelf (cond (eqb f 2) SelfOnly Nobody)))
-      go true = refl
-      go false = refl
+  -- whether the sender is looked up goes by the filter too
+  names-by : (lists : Bool) (others : SgiTarget) (x y : ℕ) → names (sentBy lists others x) ≡ names (sentBy lists others y)
+  names-by true others x y = refl
+  names-by false others x y = refl
 
   pub first-sends : sends a ≡ sends (bitOr a b)
-  first-sends = let f : ℕ = a / 2 ^ 24 % 4 in ap names (target-by a f refl) ∙ names-by f a (bitOr a b) ∙ sym (ap names (target-by (bitOr a b) f both-filter))
+  first-sends = let f : ℕ = a / 2 ^ 24 % 4 in ap names (target-by a f refl) ∙ names-by (eqb f 0) (unlisted f) a (bitOr a b) ∙ sym (ap names (target-by (bitOr a b) f both-filter))
 
   pub second-sends : sends b ≡ sends (bitOr a b)
-  second-sends = let f : ℕ = a / 2 ^ 24 % 4 in ap names (target-by b f (sym (same .filter))) ∙ names-by f b (bitOr a b) ∙ sym (ap names (target-by (bitOr a b) f both-filter))
+  second-sends = let f : ℕ = a / 2 ^ 24 % 4 in ap names (target-by b f (sym (same .filter))) ∙ names-by (eqb f 0) (unlisted f) b (bitOr a b) ∙ sym (ap names (target-by (bitOr a b) f both-filter))

@@ -243,7 +243,9 @@ module _ (shape : Shape) (s r t : List ℕ) (hs : Sound shape s) (hr : Sound sha
 -- a step down wakes nobody
 pub fallen-wakes-nobody : (shape : Shape) (s r : List ℕ) → Sound shape s → Sound shape r → Exact shape s → Exact shape r → Rising shape r s → wakeSet shape s r ≡ 0
 unfolding wakeSet gathered
-fallen-wakes-nobody shape s r hs hr xs xr down = gathered-idle 1 (λ u. bitOf (woken shape s r u)) (shape .count) 0 (omega arith) (λ u a e. ap bitOf (wakes shape (hs .state .limits) s r u ∙ quiet (ready shape u s) (ready shape u r) (room shape u r) (ready-up shape r s hr xr xs down u e)))
+fallen-wakes-nobody shape s r hs hr xs xr down =
+    gathered-idle 1 (λ u. bitOf (woken shape s r u)) (shape .count) 0 (omega arith)
+    (λ u a e. ap bitOf (wakes shape (hs .state .limits) s r u ∙ quiet (ready shape u s) (ready shape u r) (room shape u r) (ready-up shape r s hr xr xs down u e)))
   where
     quiet : (a b d : Bool) → (b ≡ true → a ≡ true) → (not a && (b && d)) ≡ false
     quiet true b d ba = refl
