@@ -283,7 +283,6 @@ wake-sets-add-up v offset width class at adds a b may s d =
     (λ q m. wakes-as-one v offset width (at .place) (at .located) a b m s q (d .shape) (held-validated s (d .shape) (d .holds)) (d .orderly .summary)
     (λ written. class-needed (d .shape) v (at .place) width (a % 2 ^ 32) s written (at .place .class) refl (d .orderly))) adds may
 
--- ICENABLER, ICPENDR, ISACTIVER, ICFGR and CPENDSGIR wake nobody
 nobody-adds : (c : Class) → wakesNobody c ≡ true → wakesAdd c ≡ true
 nobody-adds Ctlr e = absurd (true≢false (sym e))
 nobody-adds Typer e = refl
@@ -296,6 +295,7 @@ nobody-adds (Bytes Cpendsgir) e = refl
 nobody-adds (Bytes Spendsgir) e = refl
 nobody-adds Other e = refl
 
+-- ICENABLER, ICPENDR, ISACTIVER, ICFGR and CPENDSGIR wake nobody, nor do places that ignore writes
 pub nobody-is-woken : (v offset : ℕ) (width : AccessWidth) (class : Class) → PlacedAs offset width class → wakesNobody class ≡ true → (a : ℕ) (s : List ℕ) → Described s
     → writeThere v offset width a s .wake ≡ 0
 nobody-is-woken v offset width class at nobody a s d =

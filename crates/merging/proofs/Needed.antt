@@ -1,4 +1,4 @@
--- What the two theorems suppose of the words is needed: with a false bit of the summary set-enable's wake sets do not add up, and where a source is set and
+-- What is supposed of the words is needed: with a false bit of the summary set-enable's wake sets do not add up, and where a source is set and
 -- its SGI, level with its line high, is not pending, two bytes of CPENDSGIR are not one. Computed. Assumes nothing.
 use mathlib.Core.Path.{_≡_, refl, sym, ap, _∙_}
 use mathlib.Core.List.{List}

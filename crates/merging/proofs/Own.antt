@@ -91,7 +91,8 @@ pub runs-comm : (shape : Shape) (f g : ℕ → List ℕ → List ℕ) (n m : ℕ
 runs-comm shape f g n m fr gr comm s h =
     up-through shape f (upTo g m) n fr (λ i b r k. sym (up-through shape g (f i) m gr (λ j c q l. sym (comm i j b c q l)) r k .0)) s h .0
 
--- a run of f and then one of g, step by step on the same slots, is one of k, where at each place the two steps are the one. The start's own words at these slots may be counted on
+-- a run of f and then one of g on the same slots is a run of k, where at each place the two steps are the one; what the start has at these slots may be
+-- counted on
 module _ (shape : Shape) (Mine : ℕ → Slot → Type 0) (apart : (i j : ℕ) (t : Slot) → Mine i t → Mine j t → i ≡ j) (f g k : ℕ → List ℕ → List ℕ) (s : List ℕ) (h : Room shape s) where
   pub runs-merge : (n : ℕ) → ((i : ℕ) → i < n → Own shape (Mine i) (f i)) → ((i : ℕ) → i < n → Own shape (Mine i) (g i)) → ((i : ℕ) → i < n → Own shape (Mine i) (k i))
       → ((i : ℕ) → i < n → (r : List ℕ) → Room shape r → Agree shape (Mine i) r s → g i (f i r) ≡ k i r) → upTo g n (upTo f n s) ≡ upTo k n s

@@ -1,11 +1,11 @@
 -- The places and the states that the theorems speak of: each word of ISENABLER, the first too, each aligned access to ITARGETSR, the first eight words too,
 -- and every controller. Assumes nothing.
-use mathlib.Core.Path.{_≡_, refl, ap}
+use mathlib.Core.Path.{_≡_, ap}
 use mathlib.Core.Bool.{true, false}
 use mathlib.Core.List.{List}
 use Prim.Native.Nat.{ℕ, _+_, _*_, _%_, _≤_, _<_}
 use native.Mathlib.Omega.{arith}
-use borrow.Author.Tests.{le-leb, lt-ltb, eq-eqb}
+use borrow.Author.Tests.{le-leb, lt-ltb}
 use Rattle.register.specs.declared.frame.AccessWidth.{AccessWidth}
 use Rattle.register.specs.declared.frame.AccessWidth.the-variants.{Dword}
 use Rattle.register.specs.declared.ranges.BitRegister.{BitRegister}
@@ -37,12 +37,11 @@ set-enable-there i h =
     word-placed (0x100 + 4 * i) Isenabler (omega arith) (omega arith)
     (ap (λ (r : RegisterRange). r .class) (ranges-apart 4 (0x100 + 4 * i) (omega arith) (simp (le-leb 0x100 (0x100 + 4 * i) (omega arith), lt-ltb (0x100 + 4 * i) 0x180 (omega arith)) tt)))
 
--- ITARGETSR: 255 words, of which the first eight are read-only
-pub targets-there : (i : ℕ) → i < 255 → PlacedAs (0x800 + 4 * i) Dword (Bytes Itargetsr)
+-- ITARGETSR: each aligned access of 1, 2 or 4 bytes; the first eight words ignore writes
+pub targets-there : (o : ℕ) (w : AccessWidth) → 0x800 ≤ o → o < 0xbfc → inFrame 0x1000 o w ≡ true → isQword w ≡ false → PlacedAs o w (Bytes Itargetsr)
 unfolding rangeNumbered ranges
-targets-there i h =
-    bytes-placed (0x800 + 4 * i) Dword Itargetsr (simp (le-leb (0x800 + 4 * i + 4) 0x1000 (omega arith), eq-eqb ((0x800 + 4 * i) % 4) 0 (omega arith))) refl
-    (ap (λ (r : RegisterRange). r .class) (ranges-apart 11 (0x800 + 4 * i) (omega arith) (simp (le-leb 0x800 (0x800 + 4 * i) (omega arith), lt-ltb (0x800 + 4 * i) 0xbfc (omega arith)) tt)))
+targets-there o w from below inside narrow =
+    bytes-placed o w Itargetsr inside narrow (ap (λ (r : RegisterRange). r .class) (ranges-apart 11 o (omega arith) (simp (le-leb 0x800 o from, lt-ltb o 0xbfc below) tt)))
 
 -- a controller has demand 3's properties
 pub controller-described : (s : List ℕ) → Controller s → Described s

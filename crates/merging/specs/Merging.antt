@@ -51,11 +51,12 @@ pub record OneState (write : ℕ → List ℕ → Outcome) (a b c : ℕ) (s : Li
 abbrev pub OneWakeSet : (ℕ → List ℕ → Outcome) → ℕ → ℕ → ℕ → List ℕ → Type 0
 OneWakeSet write a b c s = bitOr (write a s .wake) (write b (write a s .state) .wake) ≡ write c s .wake
 
--- everywhere the one write wakes nobody whom neither of the two wakes: its wake set adds nothing to theirs
+-- the one write wakes nobody whom neither of the two wakes: or-ed to their wake sets, its own changes nothing
 abbrev pub WakesNoOther : (ℕ → List ℕ → Outcome) → ℕ → ℕ → ℕ → List ℕ → Type 0
 WakesNoOther write a b c s = bitOr (bitOr (write a s .wake) (write b (write a s .state) .wake)) (write c s .wake) ≡ bitOr (write a s .wake) (write b (write a s .state) .wake)
 
--- the one write: where 1 bits set or clear, "the bits of both"; where what is written replaces what was, "only the later counts"
+-- the one write: where 1 bits set or clear, "the bits of both"; where what is written replaces what was, "only the later counts"; where writes are ignored
+-- any value would do
 abbrev pub bitsAsOne : BitRegister → ℕ → ℕ → ℕ
 bitsAsOne register a b = cond (isConfig register) b (bitOr a b)
 
@@ -88,7 +89,7 @@ MayMerge (Bits register) a b = Unit
 MayMerge (Bytes register) a b = Unit
 MayMerge Other a b = Unit
 
--- in any words at all, but at CPENDSGIR
+-- what is supposed of the words, for two writes to be one: nothing, but at CPENDSGIR
 abbrev pub Supposes : Class → List ℕ → Type 0
 Supposes Ctlr s = Unit
 Supposes Typer s = Unit
@@ -101,7 +102,7 @@ Supposes (Bytes Cpendsgir) s = Described s
 Supposes (Bytes Spendsgir) s = Unit
 Supposes Other s = Unit
 
--- where the wake sets add up too: not where what is written replaces what decides who is given what
+-- where the wake sets add up too: not at CTLR, priorities and targets, where the first write may wake or silence whom the second does not leave so
 abbrev pub wakesAdd : Class → Bool
 wakesAdd Ctlr = false
 wakesAdd Typer = true
@@ -114,7 +115,7 @@ wakesAdd (Bytes Cpendsgir) = true
 wakesAdd (Bytes Spendsgir) = true
 wakesAdd Other = true
 
--- a row of writes, one after another: the state after it, its wake sets together, and the one write
+-- a row of writes, one after another: the state after it, its wake sets together, and the one write; each may be merged with the first
 abbrev pub rowState : (ℕ → List ℕ → Outcome) → List ℕ → List ℕ → List ℕ
 rowState write [] s = s
 rowState write (b ∷ bs) s = rowState write bs (write b s .state)
@@ -131,7 +132,7 @@ abbrev pub RowMayMerge : Class → ℕ → List ℕ → Type 0
 RowMayMerge class a [] = Unit
 RowMayMerge class a (b ∷ bs) = MayMerge class a b × RowMayMerge class a bs
 
--- where a write wakes nobody: nothing is made readier by it
+-- the bit registers whose writes make no record readier
 abbrev pub readiesNone : BitRegister → Bool
 readiesNone Igroupr = true
 readiesNone Isenabler = false
@@ -142,6 +143,7 @@ readiesNone Isactiver = true
 readiesNone Icactiver = false
 readiesNone Icfgr = true
 
+-- so a write there wakes nobody
 abbrev pub wakesNobody : Class → Bool
 wakesNobody Ctlr = false
 wakesNobody Typer = true
@@ -175,6 +177,7 @@ numbersIn Other width = 0
 abbrev pub NoCommonNumber : Place → AccessWidth → Place → AccessWidth → Type 0
 NoCommonNumber p width q width′ = (p .first .0 + numbersIn (p .class) width ≤ q .first .0) ⊎ (q .first .0 + numbersIn (q .class) width′ ≤ p .first .0)
 
+-- the classes of which `NoCommonNumber` says something
 abbrev pub hasNumbers : Class → Bool
 hasNumbers Ctlr = false
 hasNumbers Typer = false
