@@ -21,7 +21,8 @@ use Rattle.state.specs.declared.layout.Shape.{Shape}
 use Rattle.state.specs.Layout.{Slot, Exists, Room}
 use Rattle.state.specs.Words.{wordAt, recordSlot, recordAt, changed}
 use Rattle.state.proofs.Accessors.{record-exists, record-same}
-use Rattle.state.proofs.Numbers.{Of, if-local, changed-local, run-written, run-others}
+use Rattle.state.proofs.Numbers.{Of, run-written, run-others}
+use Rattle.state.proofs.Own.{Own, if-own, changed-own}
 use Rattle.state.proofs.Steps.{slots, Agree, Local, steps-room}
 use Rattle.state.proofs.Tests.{left-true}
 use Rattle.bits.specs.Bits.{fieldBits, perWord, readNumber, readBits, acts, clearActive, act, writeNumber, writeBits, BitWordAt}
@@ -57,16 +58,24 @@ act-in-range Isactiver x r h = record { priority-byte = h .priority-byte; mask-b
 act-in-range Icactiver x r h = cleared-in-range r h
 act-in-range Icfgr x r h = record { priority-byte = h .priority-byte; mask-byte = h .mask-byte; owner-byte = h .owner-byte }
 
+-- the records of a word, below the limit
+pub word-there : (shape : Shape) (register : BitRegister) (v first : ℕ) (s : List ℕ) → BitWordAt shape register v first s → (i : ℕ) → first + i < shape .limit → Exists shape (recordSlot v (first + i))
+word-there shape register v first s at i h = record-exists shape v (first + i) (record { numbered = h; banked = λ b. at .banked (omega arith) })
+
 module _ (shape : Shape) (register : BitRegister) (v first value : ℕ) (s : List ℕ) (at : BitWordAt shape register v first s) where
   exists : (i : ℕ) → first + i < shape .limit → Exists shape (recordSlot v (first + i))
-  exists i h = record-exists shape v (first + i) (record { numbered = h; banked = λ b. at .banked (omega arith) })
+  exists i h = word-there shape register v first s at i h
+
+  -- a field's write is of its number alone
+  pub field-own : (i : ℕ) → Own shape (Of v (first + i)) (writeNumber shape register v (first + i) (fieldAt (fieldBits register) i value))
+  unfolding writeNumber
+  field-own i =
+      if-own shape (Of v (first + i)) (ltb (first + i) (shape .limit) && acts register (first + i) (fieldAt (fieldBits register) i value))
+      (λ e. changed-own shape v (first + i) (act register (fieldAt (fieldBits register) i value))
+      (exists i (ltb-true (first + i) (shape .limit) (left-true (ltb (first + i) (shape .limit)) (acts register (first + i) (fieldAt (fieldBits register) i value)) e))))
 
   step : (i : ℕ) → Local shape (Of v (first + i)) (writeNumber shape register v (first + i) (fieldAt (fieldBits register) i value))
-  unfolding writeNumber
-  step i =
-      if-local (ltb (first + i) (shape .limit) && acts register (first + i) (fieldAt (fieldBits register) i value))
-      (λ e. changed-local shape v (first + i) (act register (fieldAt (fieldBits register) i value))
-      (exists i (ltb-true (first + i) (shape .limit) (left-true (ltb (first + i) (shape .limit)) (acts register (first + i) (fieldAt (fieldBits register) i value)) e))))
+  step i = field-own i .local
 
   -- a write does to each of its numbers what its field alone does
   pub bits-written : (i : ℕ) → i < perWord register

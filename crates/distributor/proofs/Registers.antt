@@ -13,13 +13,14 @@ use Rattle.word.specs.Fields.{fieldAt}
 use Rattle.word.proofs.Gathered.{gathered-field}
 use Rattle.state.specs.declared.layout.Shape.{Shape}
 use Rattle.state.specs.Layout.{Slot, Exists, Limits, Room}
-use Rattle.state.specs.Words.{wordAt}
+use Rattle.state.specs.Words.{wordAt, recordSlot}
 use Rattle.state.proofs.Accessors.{record-exists}
-use Rattle.state.proofs.Numbers.{Of, if-local, changed-local, run-written, run-others}
+use Rattle.state.proofs.Numbers.{Of, run-written, run-others}
+use Rattle.state.proofs.Own.{Own, if-own, changed-own}
 use Rattle.state.proofs.Steps.{slots, Agree, Local, steps-room}
 use Rattle.state.proofs.Tests.{left-true, right-true, not-below}
 use Rattle.targets.specs.Targets.{existingBits, writeTarget}
-use Rattle.sgi.proofs.Rings.{write-local}
+use Rattle.sgi.proofs.Rings.{sources-own}
 use Rattle.distributor.specs.Bytes.{writePriority, readByte, writeByte, readBytes, writeBytes, ByteThere, BytesAt}
 use Rattle.distributor.proofs.ByteLaws.{byte-below}
 
@@ -30,24 +31,33 @@ unfolding readBytes
 bytes-read shape register v first count s i h =
     gathered-field 8 (λ j. readByte shape register v s (first + j)) (λ j. byte-below shape register v s (first + j)) count i h
 
--- a byte's write touches its number alone
-byte-local : (shape : Shape) (register : ByteRegister) (v n byte : ℕ) → Limits shape → ByteThere shape register v n → Local shape (Of v n) (writeByte shape register v n byte)
+-- a target byte that is written is an SPI's, below the limit; a priority's below the limit
+module _ (shape : Shape) (v n : ℕ) where
+  pub target-there : (not (ltb n 32) && ltb n (shape .limit)) ≡ true → Exists shape (recordSlot v n)
+  target-there e =
+      let h : 32 ≤ n = not-below n 32 (left-true (not (ltb n 32)) (ltb n (shape .limit)) e) in
+      let b : n < shape .limit = ltb-true n (shape .limit) (right-true (not (ltb n 32)) (ltb n (shape .limit)) e) in
+      record-exists shape v n (record { numbered = b; banked = λ p. absurd (omega arith) })
+
+  pub priority-there : (n < 32 → v < shape .count) → ltb n (shape .limit) ≡ true → Exists shape (recordSlot v n)
+  priority-there banked e = record-exists shape v n (record { numbered = ltb-true n (shape .limit) e; banked = banked })
+
+-- a byte's write is of its number alone
+byte-own : (shape : Shape) (register : ByteRegister) (v n byte : ℕ) → Limits shape → ByteThere shape register v n → Own shape (Of v n) (writeByte shape register v n byte)
 unfolding writePriority writeTarget
-byte-local shape Ipriorityr v n byte l there =
-    if-local (ltb n (shape .limit))
-    (λ e. changed-local shape v n (λ r. setPriority r (record { 0 = byte })) (record-exists shape v n (record { numbered = ltb-true n (shape .limit) e; banked = there })))
-byte-local shape Itargetsr v n byte l there =
-    if-local (not (ltb n 32) && ltb n (shape .limit))
-    (λ e.
-    let h : 32 ≤ n = not-below n 32 (left-true (not (ltb n 32)) (ltb n (shape .limit)) e) in
-    let b : n < shape .limit = ltb-true n (shape .limit) (right-true (not (ltb n 32)) (ltb n (shape .limit)) e) in
-    changed-local shape v n (λ r. setCpuTargetMask r (existingBits shape byte)) (record-exists shape v n (record { numbered = b; banked = λ p. absurd (omega arith) })))
-byte-local shape Cpendsgir v n byte l there = write-local shape v n l there false byte
-byte-local shape Spendsgir v n byte l there = write-local shape v n l there true byte
+byte-own shape Ipriorityr v n byte l there =
+    if-own shape (Of v n) (ltb n (shape .limit)) (λ e. changed-own shape v n (λ r. setPriority r (record { 0 = byte })) (priority-there shape v n there e))
+byte-own shape Itargetsr v n byte l there =
+    if-own shape (Of v n) (not (ltb n 32) && ltb n (shape .limit)) (λ e. changed-own shape v n (λ r. setCpuTargetMask r (existingBits shape byte)) (target-there shape v n e))
+byte-own shape Cpendsgir v n byte l there = sources-own shape v n l there false byte
+byte-own shape Spendsgir v n byte l there = sources-own shape v n l there true byte
 
 module _ (shape : Shape) (register : ByteRegister) (v first count value : ℕ) (s : List ℕ) (at : BytesAt shape register v first count s) where
+  pub run-own : (i : ℕ) → i < count → Own shape (Of v (first + i)) (writeByte shape register v (first + i) (fieldAt 8 i value))
+  run-own i h = byte-own shape register v (first + i) (fieldAt 8 i value) (at .state .limits) (at .there i h)
+
   step : (i : ℕ) → i < count → Local shape (Of v (first + i)) (writeByte shape register v (first + i) (fieldAt 8 i value))
-  step i h = byte-local shape register v (first + i) (fieldAt 8 i value) (at .state .limits) (at .there i h)
+  step i h = run-own i h .local
 
   -- a write does to each of its numbers what its byte alone does
   pub bytes-written : (i : ℕ) → i < count

@@ -4,7 +4,6 @@ use mathlib.Core.Path.{_≡_, refl, sym, ap, _∙_}
 use mathlib.Core.Bool.{Bool, true, false, not, cond, _&&_, _||_, true≢false}
 use mathlib.Core.List.{List}
 use Prim.Native.Nat.{ℕ, _+_, _*_, _<_}
-use native.Mathlib.Omega.{arith}
 use lib.Bits.{bitOr}
 use lib.Dec.{eqb, ltb}
 use borrow.Author.Tests.{ltb-true}
@@ -17,20 +16,18 @@ use Rattle.register.specs.declared.ranges.BitRegister.{BitRegister}
 use Rattle.register.specs.declared.ranges.BitRegister.the-variants.{Igroupr, Isenabler, Icenabler, Ispendr, Icpendr, Isactiver, Icactiver, Icfgr}
 use Rattle.word.specs.Fields.{fieldAt}
 use Rattle.word.specs.Word.{wordOf, InRange}
-use Rattle.word.proofs.Cases.{same-or}
 use Rattle.word.proofs.RecordWord.{decoded-in-range}
 use Rattle.state.specs.declared.layout.Shape.{Shape}
-use Rattle.state.specs.Layout.{Slot, Exists, Room}
+use Rattle.state.specs.Layout.{Exists, Room}
 use Rattle.state.specs.Words.{wordAt, put, recordSlot, recordAt, changed}
-use Rattle.state.proofs.Accessors.{record-exists, record-same}
-use Rattle.state.proofs.Numbers.{Of, one-number}
+use Rattle.state.proofs.Accessors.{record-same}
+use Rattle.state.proofs.Numbers.{Of, numbers-apart}
+use Rattle.state.proofs.Own.{Own, runs-merge}
 use Rattle.state.proofs.Ready.{put-put}
-use Rattle.state.proofs.Tests.{left-true}
 use Rattle.bits.specs.Bits.{fieldBits, perWord, acts, clearActive, act, writeNumber, writeBits, BitWordAt}
-use Rattle.bits.proofs.Registers.{act-in-range}
+use Rattle.bits.proofs.Registers.{act-in-range, word-there, field-own}
 use Rattle.merging.specs.Merging.{bitsAsOne}
 use Rattle.merging.proofs.Joined.{flag-or, or-same}
-use Rattle.merging.proofs.Own.{Own, if-own, changed-own, runs-merge}
 
 -- a record changed twice
 pub changed-twice : (shape : Shape) (v n : ℕ) (f g k : InterruptRecord → InterruptRecord) (s : List ℕ) → Room shape s → Exists shape (recordSlot v n)
@@ -41,10 +38,6 @@ changed-twice shape v n f g k s h e ranged same =
     ap (λ (r : InterruptRecord). put shape t (wordOf (g r)) (changed shape v n f s)) (record-same shape s v n (f old) h e (ranged old (decoded-in-range (wordAt shape t s))))
     ∙ put-put shape s h t (wordOf (f old)) (wordOf (g (f old))) e
     ∙ ap (λ (r : InterruptRecord). put shape t (wordOf r) s) same
-
--- numbers from `first` up have slots of their own
-pub numbers-apart : (v first i j : ℕ) (t : Slot) → Of v (first + i) t → Of v (first + j) t → i ≡ j
-numbers-apart v first i j t a b = same-or i j (λ e. e) (λ d. absurd (one-number v (first + i) (first + j) t a b (λ p. d (omega arith))))
 
 bit-or : (i a b : ℕ) → eqb (fieldAt 1 i (bitOr a b)) 1 ≡ (eqb (fieldAt 1 i a) 1 || eqb (fieldAt 1 i b) 1)
 bit-or i a b = flag-or (1 * i) a b
@@ -110,12 +103,6 @@ fused Icfgr n i a b = record { either = or-same (not (isSgi (record { 0 = n })))
 
 -- a number
 module _ (shape : Shape) (register : BitRegister) (v n : ℕ) (there : n < shape .limit → Exists shape (recordSlot v n)) where
-  pub number-own : (x : ℕ) → Own shape (Of v n) (writeNumber shape register v n x)
-  unfolding writeNumber
-  number-own x =
-      if-own shape (Of v n) (ltb n (shape .limit) && acts register n x)
-      (λ e. changed-own shape v n (act register x) (there (ltb-true n (shape .limit) (left-true (ltb n (shape .limit)) (acts register n x) e))))
-
   number-twice : (x y m : ℕ) → Fused register n x y m → (s : List ℕ) → Room shape s → writeNumber shape register v n y (writeNumber shape register v n x s) ≡ writeNumber shape register v n m s
   unfolding writeNumber
   number-twice x y m fuse s h = go (ltb n (shape .limit)) refl
@@ -138,18 +125,15 @@ module _ (shape : Shape) (register : BitRegister) (v n : ℕ) (there : n < shape
 
 -- a word
 module _ (shape : Shape) (register : BitRegister) (v first : ℕ) (s : List ℕ) (at : BitWordAt shape register v first s) where
-  pub word-there : (i : ℕ) → first + i < shape .limit → Exists shape (recordSlot v (first + i))
-  word-there i h = record-exists shape v (first + i) (record { numbered = h; banked = λ b. at .banked (omega arith) })
-
-  pub field-own : (value i : ℕ) → Own shape (Of v (first + i)) (writeNumber shape register v (first + i) (fieldAt (fieldBits register) i value))
-  field-own value i = number-own shape register v (first + i) (word-there i) (fieldAt (fieldBits register) i value)
-
   pub bits-as-one : (a b : ℕ) → writeBits shape register v first b (writeBits shape register v first a s) ≡ writeBits shape register v first (bitsAsOne register a b) s
   unfolding writeBits
   bits-as-one a b =
       runs-merge shape (λ i. Of v (first + i)) (numbers-apart v first) (steps a) (steps b) (steps (bitsAsOne register a b)) s (at .state) (perWord register)
-      (λ i h. field-own a i) (λ i h. field-own b i) (λ i h. field-own (bitsAsOne register a b) i)
-      (λ i h r k agree. number-twice shape register v (first + i) (word-there i) _ _ _ (fused register (first + i) i a b) r k)
+      (λ i h. own a i) (λ i h. own b i) (λ i h. own (bitsAsOne register a b) i)
+      (λ i h r k agree. number-twice shape register v (first + i) (word-there shape register v first s at i) _ _ _ (fused register (first + i) i a b) r k)
     where
       steps : ℕ → ℕ → List ℕ → List ℕ
       steps value i = writeNumber shape register v (first + i) (fieldAt (fieldBits register) i value)
+
+      own : (value i : ℕ) → Own shape (Of v (first + i)) (steps value i)
+      own value i = field-own shape register v first value s at i

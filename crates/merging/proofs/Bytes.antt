@@ -6,7 +6,6 @@ use Prim.Native.Nat.{ℕ, _+_, _*_, _≤_, _<_, _%_, _^_}
 use native.Mathlib.Nat.{mod-le}
 use native.Mathlib.Omega.{arith}
 use lib.Dec.{ltb}
-use borrow.Author.Tests.{ltb-true}
 use Rattle.interrupt.specs.Types.{priorityOf}
 use Rattle.interrupt.specs.Record.{setPriority, setCpuTargetMask}
 use Rattle.interrupt.specs.declared.record.InterruptRecord.{InterruptRecord}
@@ -17,43 +16,23 @@ use Rattle.word.specs.Word.{InRange}
 use Rattle.state.specs.declared.layout.Shape.{Shape}
 use Rattle.state.specs.Layout.{Exists, Limits, Room}
 use Rattle.state.specs.Words.{recordSlot, changed}
-use Rattle.state.proofs.Accessors.{record-exists}
-use Rattle.state.proofs.Numbers.{Of}
+use Rattle.state.proofs.Numbers.{Of, numbers-apart}
+use Rattle.state.proofs.Own.{Own, runs-merge}
 use Rattle.state.proofs.Steps.{Agree}
-use Rattle.state.proofs.Tests.{left-true, right-true, not-below}
 use Rattle.targets.specs.Targets.{existingBits, writeTarget}
+use Rattle.distributor.proofs.Registers.{target-there, priority-there, run-own}
 use Rattle.distributor.specs.Bytes.{writePriority, writeByte, writeBytes, ByteThere, BytesAt}
 use Rattle.merging.specs.Merging.{bytesAsOne}
-use Rattle.merging.proofs.Bits.{changed-twice, numbers-apart}
+use Rattle.merging.proofs.Bits.{changed-twice}
 use Rattle.merging.proofs.Joined.{or-field}
-use Rattle.merging.proofs.Own.{Own, if-own, changed-own, runs-merge}
-use Rattle.merging.proofs.Sources.{Pends, sources-own, sources-twice, pends-kept}
+use Rattle.merging.proofs.Sources.{Pends, sources-twice, pends-kept}
 
--- a target byte that is written is an SPI's, below the limit
+-- a field replaced, and then replaced again
 module _ (shape : Shape) (v n : ℕ) where
-  target-there : (not (ltb n 32) && ltb n (shape .limit)) ≡ true → Exists shape (recordSlot v n)
-  target-there e =
-      let h : 32 ≤ n = not-below n 32 (left-true (not (ltb n 32)) (ltb n (shape .limit)) e) in
-      let b : n < shape .limit = ltb-true n (shape .limit) (right-true (not (ltb n 32)) (ltb n (shape .limit)) e) in
-      record-exists shape v n (record { numbered = b; banked = λ p. absurd (omega arith) })
-
-  priority-there : (n < 32 → v < shape .count) → ltb n (shape .limit) ≡ true → Exists shape (recordSlot v n)
-  priority-there banked e = record-exists shape v n (record { numbered = ltb-true n (shape .limit) e; banked = banked })
-
-  -- a field replaced, and then replaced again
   replaced-twice : (b : Bool) (f g : InterruptRecord → InterruptRecord) → (b ≡ true → Exists shape (recordSlot v n)) → ((r : InterruptRecord) → InRange r → InRange (f r))
       → ((r : InterruptRecord) → g (f r) ≡ g r) → (s : List ℕ) → Room shape s → cond b (changed shape v n g (cond b (changed shape v n f s) s)) (cond b (changed shape v n f s) s) ≡ cond b (changed shape v n g s) s
   replaced-twice true f g there ranged last s h = changed-twice shape v n f g g s h (there refl) ranged (last _)
   replaced-twice false f g there ranged last s h = refl
-
-pub byte-own : (shape : Shape) (register : ByteRegister) (v n byte : ℕ) → Limits shape → ByteThere shape register v n → Own shape (Of v n) (writeByte shape register v n byte)
-unfolding writePriority writeTarget
-byte-own shape Ipriorityr v n byte l there =
-    if-own shape (Of v n) (ltb n (shape .limit)) (λ e. changed-own shape v n (λ r. setPriority r (priorityOf byte)) (priority-there shape v n there e))
-byte-own shape Itargetsr v n byte l there =
-    if-own shape (Of v n) (not (ltb n 32) && ltb n (shape .limit)) (λ e. changed-own shape v n (λ r. setCpuTargetMask r (existingBits shape byte)) (target-there shape v n e))
-byte-own shape Cpendsgir v n byte l there = sources-own shape v n l there false byte
-byte-own shape Spendsgir v n byte l there = sources-own shape v n l there true byte
 
 -- what the words must have at a number: at CPENDSGIR a source that is set pends its SGI
 abbrev pub ByteNeeds : Shape → ByteRegister → ℕ → ℕ → List ℕ → Type 0
@@ -89,15 +68,12 @@ needs-kept shape Cpendsgir v n l there s r a need = pends-kept shape v n l there
 needs-kept shape Spendsgir v n l there s r a need = tt
 
 module _ (shape : Shape) (register : ByteRegister) (v first count : ℕ) (s : List ℕ) (at : BytesAt shape register v first count s) where
-  pub run-own : (value i : ℕ) → i < count → Own shape (Of v (first + i)) (writeByte shape register v (first + i) (fieldAt 8 i value))
-  run-own value i h = byte-own shape register v (first + i) (fieldAt 8 i value) (at .state .limits) (at .there i h)
-
   pub bytes-as-one : (a b : ℕ) → ((i : ℕ) → i < count → ByteNeeds shape register v (first + i) s)
       → writeBytes shape register v first count b (writeBytes shape register v first count a s) ≡ writeBytes shape register v first count (bytesAsOne register a b) s
   unfolding writeBytes
   bytes-as-one a b need =
       runs-merge shape (λ i. Of v (first + i)) (numbers-apart v first) (steps a) (steps b) (steps (bytesAsOne register a b)) s (at .state) count
-      (run-own a) (run-own b) (run-own (bytesAsOne register a b))
+      (own a) (own b) (own (bytesAsOne register a b))
       (λ i h r k agree.
       byte-twice shape register v (first + i) (fieldAt 8 i a) (fieldAt 8 i b) (omega arith) (omega arith) (at .there i h) r k
       (needs-kept shape register v (first + i) (k .limits) (at .there i h) s r agree (need i h))
@@ -105,3 +81,6 @@ module _ (shape : Shape) (register : ByteRegister) (v first count : ℕ) (s : Li
     where
       steps : ℕ → ℕ → List ℕ → List ℕ
       steps value i = writeByte shape register v (first + i) (fieldAt 8 i value)
+
+      own : (value i : ℕ) → i < count → Own shape (Of v (first + i)) (steps value i)
+      own value i h = run-own shape register v first count value s at i h

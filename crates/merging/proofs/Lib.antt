@@ -1,5 +1,4 @@
 -- Laws of the steps that a write is made of, once for bit registers and once for byte arrays; then of writes, and of calls.
-pub mod Own
 pub mod Joined
 pub mod Bits
 pub mod Sources

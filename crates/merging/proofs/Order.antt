@@ -30,16 +30,16 @@ use Rattle.state.specs.Lent.{validated}
 use Rattle.state.specs.Loop.{upTo}
 use Rattle.state.proofs.Accessors.{records-apart, record-no-sources}
 use Rattle.state.proofs.Numbers.{Of}
+use Rattle.state.proofs.Own.{Own, apart-comm, runs-comm}
 use Rattle.bits.specs.Bits.{fieldBits, writeNumber, writeBits}
+use Rattle.bits.proofs.Registers.{field-own}
+use Rattle.distributor.proofs.Registers.{run-own}
 use Rattle.distributor.specs.Bytes.{writeByte, writeBytes}
 use Rattle.places.specs.Places.{writePlaceLooksUp, writeClass, writePlace, PlaceWritten}
 use Rattle.places.proofs.Fits.{bit-word, byte-run}
 use Rattle.answer.specs.Answer.{Outcome, absent}
 use Rattle.merging.specs.Merging.{PlacedAs, writeThere, EitherOrder, NoCommonByte, numbersIn, NoCommonNumber, hasNumbers}
-use Rattle.merging.proofs.Bits.{field-own}
-use Rattle.merging.proofs.Bytes.{run-own}
 use Rattle.merging.proofs.Calls.{broken, written, place-at, after-valid}
-use Rattle.merging.proofs.Own.{Own, apart-comm, runs-comm}
 
 -- slots of two numbers, of whichever vCPUs, are two
 numbers-two : (v u n m : ℕ) (t : Slot) → (n ≡ m → ⊥) → Of v n t → Of u m t → ⊥
@@ -75,8 +75,8 @@ module _ (shape : Shape) (v : ℕ) (place : Place) (w : AccessWidth) (x : ℕ) (
   own-by Typer e has i h = absurd (true≢false (sym has))
   own-by Iidr e has i h = absurd (true≢false (sym has))
   own-by Sgir e has i h = absurd (true≢false (sym has))
-  own-by (Bits register) e has i h = field-own shape register v (place .first .0) s (bit-word shape v place w s (at .state) (at .located) register e (λ q. at .looked (simp e q))) x i
-  own-by (Bytes register) e has i h = run-own shape register v (place .first .0) (bytes w) s (byte-run shape v place w s (at .state) (at .located) register e (λ q. at .looked (simp e q))) x i h
+  own-by (Bits register) e has i h = field-own shape register v (place .first .0) x s (bit-word shape v place w s (at .state) (at .located) register e (λ q. at .looked (simp e q))) i
+  own-by (Bytes register) e has i h = run-own shape register v (place .first .0) (bytes w) x s (byte-run shape v place w s (at .state) (at .located) register e (λ q. at .looked (simp e q))) i h
   own-by Other e has i h = absurd (true≢false (sym has))
 
   step-own : hasNumbers (place .class) ≡ true → (i : ℕ) → i < numbersIn (place .class) w → Own shape (Of v (place .first .0 + i)) (stepOf shape v (place .class) (place .first .0) x i)

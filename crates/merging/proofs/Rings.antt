@@ -3,7 +3,6 @@
 use mathlib.Core.Path.{_≡_, refl, sym, ap, _∙_}
 use mathlib.Core.Bool.{Bool, true, false, not, cond, _||_, true≢false}
 use mathlib.Core.List.{List}
-use mathlib.Core.Logic.{inr}
 use Prim.Native.Nat.{ℕ, _/_, _%_, _^_, _<_}
 use native.Mathlib.Omega.{arith}
 use lib.Bits.{bitOr, or-lt, or-self, or-mod}
@@ -16,17 +15,17 @@ use Rattle.state.specs.Layout.{Slot, Sources, Exists, Limits, Room}
 use Rattle.state.specs.Words.{sourcesAt, changed, withSources}
 use Rattle.state.proofs.Accessors.{sources-same}
 use Rattle.state.proofs.Numbers.{Of, one-vcpu}
+use Rattle.state.proofs.Own.{runs-merge}
 use Rattle.state.proofs.Ready.{Summed}
 use Rattle.sgi.specs.declared.SgiTarget.{SgiTarget}
 use Rattle.sgi.specs.declared.SgiTarget.the-variants.{Mask, AllExceptSelf, SelfOnly, Nobody}
 use Rattle.sgi.specs.Sgi.{writeSources, pendSgi, sgiTarget, includes, sentTo, sendSgi}
-use Rattle.sgi.proofs.Rings.{sgi-exists, joined-some}
+use Rattle.sgi.proofs.Rings.{ring-own, sent-own, joined-some}
 use Rattle.places.specs.Places.{names, sends}
 use Rattle.merging.specs.Merging.{SameRing}
 use Rattle.merging.proofs.Joined.{flag-or, or-field, or-same}
-use Rattle.merging.proofs.Own.{Own, put-own, then-own, if-own, changed-own, runs-merge}
 use Rattle.merging.proofs.Rising.{Rising, rising-none, run-way}
-use Rattle.merging.proofs.Sources.{same-sources, sources-twice}
+use Rattle.merging.proofs.Sources.{sources-twice}
 use Rattle.merging.proofs.Ways.{source-way}
 
 -- one vCPU's
@@ -46,15 +45,8 @@ module _ (shape : Shape) (v source n : ℕ) (few : source < 8) (l : Limits shape
           ap (λ (z : ℕ). not (eqb z 0)) (sources-same shape s v n joined h e (or-lt 8 (sourcesAt shape v n s) (2 ^ source) (omega arith) (pow-lt few)))
           ∙ ap not (ne-eqb joined 0 (joined-some (sourcesAt shape v n s) source))
 
-  ring-own : Own shape (Of v n) (pendSgi shape v source n)
-  unfolding pendSgi
-  ring-own =
-      then-own shape (Of v n)
-      (put-own shape (Of v n) (Sources v n) (λ s. bitOr (sourcesAt shape v n s) (2 ^ source)) e (inr refl) (λ s r a. ap (λ (x : ℕ). bitOr x (2 ^ source)) (same-sources shape v n l e s r a)))
-      (changed-own shape v n (λ r. setPending r true) (sgi-exists shape v n l e))
-
   ring-room : (s : List ℕ) → Room shape s → Room shape (pendSgi shape v source n s)
-  ring-room s h = ring-own .local .room s h
+  ring-room s h = ring-own shape v n l e source .local .room s h
 
   ring-twice : (s : List ℕ) → Room shape s → pendSgi shape v source n (pendSgi shape v source n s) ≡ pendSgi shape v source n s
   ring-twice s h =
@@ -69,9 +61,6 @@ module _ (shape : Shape) (v source n : ℕ) (few : source < 8) (l : Limits shape
 
 -- to several vCPUs
 module _ (shape : Shape) (source n : ℕ) (few : source < 8) (sgi : n < 16) (s : List ℕ) (l : Limits shape) where
-  sent-own : (to : SgiTarget) (u : ℕ) → u < shape .count → Own shape (Of u n) (sentTo shape to source n u)
-  sent-own to u b = if-own shape (Of u n) (includes to source u) (λ p. ring-own shape u source n few l (b, sgi))
-
   vcpus-apart : (i j : ℕ) (t : Slot) → Of i n t → Of j n t → i ≡ j
   vcpus-apart i j t a b = one-vcpu i j n t (omega arith) a b
 
@@ -92,12 +81,12 @@ module _ (shape : Shape) (source n : ℕ) (few : source < 8) (sgi : n < 16) (s :
     unfolding sendSgi
     sent-as-one h =
         runs-merge shape (λ u. Of u n) vcpus-apart (sentTo shape first source n) (sentTo shape second source n) (sentTo shape one source n) s h (shape .count)
-        (sent-own first) (sent-own second) (sent-own one) (λ u b r k agree. sent-twice u b r k)
+        (sent-own shape source n first s h sgi) (sent-own shape source n second s h sgi) (sent-own shape source n one s h sgi) (λ u b r k agree. sent-twice u b r k)
 
   pub sent-way : (to : SgiTarget) → Summed shape s → Rising shape s (sendSgi shape source n to s) × Summed shape (sendSgi shape source n to s)
   unfolding sendSgi
   sent-way to h =
-      run-way true shape (λ u. Of u n) vcpus-apart (sentTo shape to source n) s h (shape .count) (λ u b. sent-own to u b .local) (λ u b r k agree. step u b r k)
+      run-way true shape (λ u. Of u n) vcpus-apart (sentTo shape to source n) s h (shape .count) (λ u b. sent-own shape source n to s (h .0) sgi u b .local) (λ u b r k agree. step u b r k)
     where
       step : (u : ℕ) → u < shape .count → (r : List ℕ) → Summed shape r → Rising shape r (sentTo shape to source n u r) × Summed shape (sentTo shape to source n u r)
       step u b r k = go (includes to source u)

@@ -23,7 +23,7 @@ use Rattle.state.specs.Words.{wordAt, put, recordSlot, recordAt, kept, interfac
 use Rattle.state.proofs.Accessors.{put-same, put-other, same-or-other, record-exists}
 use Rattle.state.proofs.Ready.{Summed}
 use Rattle.state.proofs.SlotKinds.{record-kind}
-use Rattle.state.proofs.Steps.{slots, Agree, Local, steps-others}
+use Rattle.state.proofs.Steps.{slots, Agree, Local, before-last}
 use Rattle.state.proofs.Tests.{left-true, right-true}
 use Rattle.select.specs.declared.Selected.{Selected}
 use Rattle.select.specs.declared.Selected.the-variants.{Best, Nothing}
@@ -114,13 +114,8 @@ module _ (up : Bool) (shape : Shape) (Mine : ℕ → Slot → Type 0) (apart : (
   run-way zero local each = (way-none up shape s, h)
   run-way (suc n) local each =
       let before = run-way n (λ i b. local i (omega arith)) (λ i b. each i (omega arith)) in
-      let last = each n (omega arith) (upTo f n s) (before .1) untouched in
+      let last = each n (omega arith) (upTo f n s) (before .1) (before-last (slots shape) Mine f apart n s (λ i b. local i (omega arith)) (h .0)) in
       (way-then up shape s (upTo f n s) (f n (upTo f n s)) (before .0) (last .0), last .1)
-    where
-      untouched : Agree shape (Mine n) (upTo f n s) s
-      untouched = record {
-        agree = λ t e m. steps-others (slots shape) Mine f n s (λ i b. local i (omega arith)) (h .0) t e (λ i b mi. let p : i ≡ n = apart i n t mi m in omega arith);
-      }
 
 -- what is handed out before is handed out after, or something that goes before it
 module _ (shape : Shape) (s r : List ℕ) (h : Sound shape s) (xs : Exact shape s) (xr : Exact shape r) (up : Rising shape s r) (u : ℕ) (exists : u < shape .count) where

@@ -4,8 +4,7 @@
 use mathlib.Core.Path.{_≡_, refl, sym, ap, _∙_}
 use mathlib.Core.Bool.{Bool, true, _||_}
 use mathlib.Core.List.{List, [], _∷_}
-use Prim.Native.Nat.{ℕ, zero, suc, _+_, _^_, _<_}
-use native.Mathlib.Nat.{pow-suc}
+use Prim.Native.Nat.{ℕ, _+_, _^_, _<_}
 use native.Mathlib.Omega.{arith}
 use lib.Bits.{bitOr, or-zero-r, or-lt}
 use lib.Pow.{pow-mono}
@@ -14,15 +13,11 @@ use Rattle.register.specs.declared.ranges.ByteRegister.the-variants.{Ipriorityr
 use Rattle.register.specs.declared.ranges.Class.{Class}
 use Rattle.register.specs.declared.ranges.Class.the-variants.{Ctlr, Typer, Iidr, Sgir, Bits, Bytes, Other}
 use Rattle.word.specs.Word.{flag}
-use Rattle.state.proofs.WordBits.{by-bits}
+use Rattle.state.proofs.WordBits.{by-bits, under-power}
 use Rattle.merging.specs.Merging.{Described, PlacedAs, writeThere, MayMerge, asOne, Supposes, wakesAdd, rowState, rowWakes, rowAsOne, RowMayMerge}
 use Rattle.merging.proofs.Calls.{two-writes-are-one, wake-sets-add-up}
 use Rattle.merging.proofs.Joined.{flag-or, or-either}
 use Rattle.merging.proofs.Rings.{both-filter, both-number}
-
-under-power : (x : ℕ) → x < 2 ^ x
-under-power zero = omega arith
-under-power (suc x) = let p = pow-suc 2 x in let h = under-power x in omega arith
 
 -- sets joined in any order
 or-assoc : (a b c : ℕ) → bitOr (bitOr a b) c ≡ bitOr a (bitOr b c)

@@ -4,7 +4,7 @@
 use mathlib.Core.Path.{_≡_, refl, sym, ap, _∙_}
 use mathlib.Core.Bool.{Bool, true, false, not, cond, _&&_, true≢false}
 use mathlib.Core.List.{List}
-use mathlib.Core.Logic.{inl, inr}
+use mathlib.Core.Logic.{inl}
 use Prim.Native.Nat.{ℕ, _-_, _%_, _<_}
 use native.Mathlib.Omega.{arith}
 use lib.Bits.{bitOr, or-zero-l, or-zero-r, and-zero-l}
@@ -25,11 +25,10 @@ use Rattle.state.proofs.Accessors.{put-room, put-other, record-same, sources-sa
 use Rattle.state.proofs.Numbers.{Of}
 use Rattle.state.proofs.Ready.{put-put, put-comm}
 use Rattle.state.proofs.Steps.{Agree}
-use Rattle.sgi.specs.Sgi.{pendBySources, sourced, mergedSources, writeSources}
-use Rattle.sgi.proofs.Rings.{sgi-exists, merged-fits, pended}
+use Rattle.sgi.specs.Sgi.{sourced, mergedSources, writeSources}
+use Rattle.sgi.proofs.Rings.{sgi-exists, same-sources, merged-fits, pended}
 use Rattle.merging.proofs.Bits.{act-again}
 use Rattle.merging.proofs.Joined.{merged-again, some-right}
-use Rattle.merging.proofs.Own.{Own, put-own, then-own, unless-own}
 
 -- a source that is set pends its SGI
 abbrev pub Pends : Shape → ℕ → ℕ → List ℕ → Type 0
@@ -57,23 +56,8 @@ module _ (shape : Shape) (v n : ℕ) (l : Limits shape) (e : Exists shape (Sourc
   there : Exists shape own
   there = sgi-exists shape v n l e
 
-  pub same-sources : (s r : List ℕ) → Agree shape (Of v n) s r → sourcesAt shape v n s ≡ sourcesAt shape v n r
-  same-sources s r a = ap (λ (w : ℕ). w % 256) (a .agree (Sources v n) e (inr refl))
-
-  pend-own : Own shape (Of v n) (pendBySources shape v n)
-  pend-own =
-      put-own shape (Of v n) own (λ s. wordOf (setPending (recordAt shape v n s) (not (eqb (sourcesAt shape v n s) 0)))) there (inl refl)
-      (λ s r a. simp (same-sources s r a, a .agree own there (inl refl)))
-
-  pub sources-own : (on : Bool) (byte : ℕ) → Own shape (Of v n) (writeSources shape v n on byte)
-  unfolding writeSources
-  sources-own on byte =
-      unless-own shape (Of v n) (eqb byte 0)
-      (then-own shape (Of v n)
-      (put-own shape (Of v n) (Sources v n) (λ s. mergedSources on (sourcesAt shape v n s) byte) e (inr refl) (λ s r a. ap (λ (x : ℕ). mergedSources on x byte) (same-sources s r a))) pend-own)
-
   pub pends-kept : (s r : List ℕ) → Agree shape (Of v n) r s → Pends shape v n s → Pends shape v n r
-  pends-kept s r a p d = ap (λ (w : ℕ). recordOf w .pending) (a .agree own there (inl refl)) ∙ p (λ z. d (same-sources r s a ∙ z))
+  pends-kept s r a p d = ap (λ (w : ℕ). recordOf w .pending) (a .agree own there (inl refl)) ∙ p (λ z. d (same-sources shape v n l e r s a ∙ z))
 
   -- a set, and the record that it pends or not
   abbrev pub both : ℕ → List ℕ → List ℕ

@@ -21,16 +21,15 @@ use Rattle.word.proofs.RecordWord.{decoded-in-range, decode-encode}
 use Rattle.state.specs.declared.layout.Shape.{Shape}
 use Rattle.state.specs.Layout.{Sources, Spi, Exists, Limits, Room, kindOf, isRecord}
 use Rattle.state.specs.Words.{wordAt, put, recordSlot, recordAt, changed, sourcesAt, Exact}
-use Rattle.state.proofs.Numbers.{Of}
+use Rattle.state.proofs.Numbers.{Of, numbers-apart}
 use Rattle.state.proofs.Ready.{Anywhere, Summed, summed-kept}
 use Rattle.state.proofs.SlotKinds.{record-kind}
 use Rattle.state.proofs.Tests.{left-true}
 use Rattle.bits.specs.Bits.{fieldBits, perWord, acts, clearActive, act, writeNumber, writeBits, BitWordAt}
-use Rattle.bits.proofs.Registers.{act-in-range}
+use Rattle.bits.proofs.Registers.{act-in-range, word-there, field-own}
 use Rattle.sgi.specs.Sgi.{mergedSources, writeSources}
 use Rattle.sgi.proofs.Rings.{sgi-exists, merged-fits, pended}
 use Rattle.merging.specs.Merging.{readiesNone}
-use Rattle.merging.proofs.Bits.{numbers-apart, word-there, field-own}
 use Rattle.merging.proofs.Joined.{some-right}
 use Rattle.merging.proofs.Rising.{Way, Rises, Rising, rises-none, way-none, way-then, record-way, sources-way, run-way}
 use Rattle.merging.proofs.Sources.{Pends, both, sourced-both, record-behind}
@@ -139,7 +138,7 @@ pub bits-way : (shape : Shape) (register : BitRegister) (v first value : ℕ) (s
 unfolding writeBits
 bits-way shape register v first value s at x =
     run-way (raises register) shape (λ i. Of v (first + i)) (numbers-apart v first) (λ i. writeNumber shape register v (first + i) (fieldAt (fieldBits register) i value)) s (at .state, x) (perWord register)
-    (λ i h. field-own shape register v first s at value i .local)
+    (λ i h. field-own shape register v first value s at i .local)
     (λ i h r k agree. number-way shape register v (first + i) (fieldAt (fieldBits register) i value) (word-there shape register v first s at i) r k)
 
 -- a source byte

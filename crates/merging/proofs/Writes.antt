@@ -21,18 +21,18 @@ use Rattle.word.proofs.Cases.{same-or}
 use Rattle.state.specs.declared.layout.Shape.{Shape}
 use Rattle.state.specs.Layout.{DistributorControl, Sources, Exists, Room}
 use Rattle.state.specs.Words.{recordAt, sourcesAt, keptDistributorControl, Exact}
-use Rattle.state.proofs.Numbers.{Of}
+use Rattle.state.proofs.Numbers.{Of, numbers-apart}
 use Rattle.state.proofs.Ready.{Summed, put-put}
 use Rattle.bits.specs.Bits.{isConfig, BitWordAt}
 use Rattle.sgi.specs.Sgi.{mergedSources, writeSources, sgiTarget, sendSgi, writeSgir}
 use Rattle.sgi.proofs.Rings.{written-sources, written-pends}
 use Rattle.distributor.specs.Bytes.{writeByte, writeBytes, ByteThere, BytesAt}
-use Rattle.distributor.proofs.Registers.{bytes-written}
+use Rattle.distributor.proofs.Registers.{run-own, bytes-written}
 use Rattle.places.specs.Places.{sends, ringed, writeClass, writePlace, PlaceWritten}
 use Rattle.places.proofs.Fits.{bit-word, byte-run}
 use Rattle.merging.specs.Merging.{SameRing, MayMerge, asOne, wakesAdd, wakesNobody}
-use Rattle.merging.proofs.Bits.{bits-as-one, numbers-apart}
-use Rattle.merging.proofs.Bytes.{ByteNeeds, needs-kept, bytes-as-one, run-own}
+use Rattle.merging.proofs.Bits.{bits-as-one}
+use Rattle.merging.proofs.Bytes.{ByteNeeds, needs-kept, bytes-as-one}
 use Rattle.merging.proofs.Rings.{sent-as-one, sent-way, both-number, both-includes, first-sends, second-sends}
 use Rattle.merging.proofs.Rising.{Way, Rising, way-none, run-way}
 use Rattle.merging.proofs.Sources.{Pends}
@@ -128,7 +128,7 @@ module _ (shape : Shape) (register : ByteRegister) (v first count value : ℕ) (
   unfolding writeBytes
   bytes-way adds x =
       run-way (byteRaises register) shape (λ i. Of v (first + i)) (numbers-apart v first) (λ i. writeByte shape register v (first + i) (fieldAt 8 i value)) s (at .state, x) count
-      (λ i h. run-own shape register v first count s at value i h .local)
+      (λ i h. run-own shape register v first count value s at i h .local)
       (λ i h r k agree. byte-way shape register v (first + i) (fieldAt 8 i value) adds (omega arith) (at .there i h) r k (needs-kept shape register v (first + i) (at .state .limits) (at .there i h) s r agree (need i h)))
 
   bytes-leave : (i : ℕ) → i < count → ByteNeeds shape register v (first + i) (writeBytes shape register v first count value s)

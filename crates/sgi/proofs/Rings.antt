@@ -21,7 +21,8 @@ use Rattle.state.specs.declared.layout.Shape.{Shape}
 use Rattle.state.specs.Layout.{Slot, Sources, Exists, Limits, Room}
 use Rattle.state.specs.Words.{wordAt, recordSlot, recordAt, changed, sourcesAt, withSources}
 use Rattle.state.proofs.Accessors.{put-room, put-other, record-exists, record-same, sources-same, record-no-sources}
-use Rattle.state.proofs.Numbers.{Of, one-vcpu, then-local, if-local, unless-local, put-local, changed-local, sources-local}
+use Rattle.state.proofs.Numbers.{Of, one-vcpu}
+use Rattle.state.proofs.Own.{Own, put-own, then-own, if-own, unless-own, changed-own}
 use Rattle.state.proofs.Steps.{slots, Agree, Local, steps-room, steps-own, steps-others}
 use Rattle.sgi.specs.declared.SgiTarget.{SgiTarget}
 use Rattle.sgi.specs.Sgi.{pendBySources, mergedSources, writeSources, pendSgi, includes, sentTo, sendSgi}
@@ -30,30 +31,32 @@ pub sgi-exists : (shape : Shape) (v n : ℕ) → Limits shape → Exists shape (
 sgi-exists shape v n l e = record-exists shape v n (record { numbered = omega arith; banked = λ b. e .0 })
 
 module _ (shape : Shape) (v n : ℕ) (l : Limits shape) (e : Exists shape (Sources v n)) where
-  same-sources : (s r : List ℕ) → Agree shape (Of v n) s r → sourcesAt shape v n s ≡ sourcesAt shape v n r
+  pub same-sources : (s r : List ℕ) → Agree shape (Of v n) s r → sourcesAt shape v n s ≡ sourcesAt shape v n r
   same-sources s r a = ap (λ (w : ℕ). w % 256) (a .agree (Sources v n) e (inr refl))
 
-  pend-local : Local shape (Of v n) (pendBySources shape v n)
-  pend-local =
-      put-local shape (Of v n) (recordSlot v n) (λ s. wordOf (setPending (recordAt shape v n s) (not (eqb (sourcesAt shape v n s) 0)))) (sgi-exists shape v n l e) (inl refl)
+  merges : (f : ℕ → ℕ) → Own shape (Of v n) (λ s. withSources shape v n (f (sourcesAt shape v n s)) s)
+  merges f = put-own shape (Of v n) (Sources v n) (λ s. f (sourcesAt shape v n s)) e (inr refl) (λ s r a. ap f (same-sources s r a))
+
+  pend-own : Own shape (Of v n) (pendBySources shape v n)
+  pend-own =
+      put-own shape (Of v n) (recordSlot v n) (λ s. wordOf (setPending (recordAt shape v n s) (not (eqb (sourcesAt shape v n s) 0)))) (sgi-exists shape v n l e) (inl refl)
       (λ s r a. simp (same-sources s r a, a .agree (recordSlot v n) (sgi-exists shape v n l e) (inl refl)))
 
-  pub write-local : (on : Bool) (byte : ℕ) → Local shape (Of v n) (writeSources shape v n on byte)
+  pub sources-own : (on : Bool) (byte : ℕ) → Own shape (Of v n) (writeSources shape v n on byte)
   unfolding writeSources
-  write-local on byte =
-      unless-local (eqb byte 0)
-      (then-local (sources-local shape v n (λ s. mergedSources on (sourcesAt shape v n s) byte) e (λ s r a. ap (λ (x : ℕ). mergedSources on x byte) (same-sources s r a))) pend-local)
+  sources-own on byte = unless-own shape (Of v n) (eqb byte 0) (then-own shape (Of v n) (merges (λ x. mergedSources on x byte)) pend-own)
 
-  pub ring-local : (source : ℕ) → Local shape (Of v n) (pendSgi shape v source n)
+  pub ring-own : (source : ℕ) → Own shape (Of v n) (pendSgi shape v source n)
   unfolding pendSgi
-  ring-local source =
-      then-local (sources-local shape v n (λ s. bitOr (sourcesAt shape v n s) (2 ^ source)) e (λ s r a. ap (λ (x : ℕ). bitOr x (2 ^ source)) (same-sources s r a)))
-      (changed-local shape v n (λ r. setPending r true) (sgi-exists shape v n l e))
+  ring-own source = then-own shape (Of v n) (merges (λ x. bitOr x (2 ^ source))) (changed-own shape v n (λ r. setPending r true) (sgi-exists shape v n l e))
 
 -- SGIR: each existing vCPU gets what its own ring makes of the start ..
 module _ (shape : Shape) (source n : ℕ) (target : SgiTarget) (s : List ℕ) (h : Room shape s) (sgi : n < 16) where
+  pub sent-own : (v : ℕ) → v < shape .count → Own shape (Of v n) (sentTo shape target source n v)
+  sent-own v b = if-own shape (Of v n) (includes target source v) (λ p. ring-own shape v n (h .limits) (b, sgi) source)
+
   sent : (v : ℕ) → v < shape .count → Local shape (Of v n) (sentTo shape target source n v)
-  sent v b = if-local (includes target source v) (λ p. ring-local shape v n (h .limits) (b, sgi) source)
+  sent v b = sent-own v b .local
 
   pub sgi-sent : (v : ℕ) → v < shape .count → Agree shape (Of v n) (sendSgi shape source n target s) (sentTo shape target source n v s)
   unfolding sendSgi

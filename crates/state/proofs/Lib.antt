@@ -4,6 +4,7 @@ pub mod Canonical
 pub mod Decoded
 pub mod Equal
 pub mod Numbers
+pub mod Own
 pub mod Places
 pub mod Ready
 pub mod SlotKinds

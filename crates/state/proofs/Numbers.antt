@@ -1,19 +1,17 @@
 -- The slots of an interrupt's number, as one vCPU meets them: its record, and of an SGI its source set. Every register's write is a chain of
 -- steps on one number each (`Steps`). Assumes nothing.
-use mathlib.Core.Path.{_≡_, refl, sym, ap, _∙_, subst}
+use mathlib.Core.Path.{_≡_, refl, sym, _∙_, subst}
 use mathlib.Core.Bool.{Bool, true, false, cond}
 use mathlib.Core.List.{List}
 use mathlib.Core.Logic.{_⊎_, inl, inr}
 use Prim.Native.Nat.{ℕ, _+_, _<_}
 use native.Mathlib.Omega.{arith}
 use borrow.Author.Tests.{lt-ltb}
-use Rattle.interrupt.specs.declared.record.InterruptRecord.{InterruptRecord}
-use Rattle.word.specs.Word.{recordOf, wordOf}
 use Rattle.word.proofs.Cases.{same-or}
 use Rattle.state.specs.declared.layout.Shape.{Shape}
 use Rattle.state.specs.Layout.{Slot, Sources, Private, Exists, Room}
 use Rattle.state.specs.Loop.{upTo}
-use Rattle.state.specs.Words.{wordAt, put, recordSlot, recordAt, changed, withSources}
+use Rattle.state.specs.Words.{wordAt, put, recordSlot}
 use Rattle.state.proofs.Accessors.{put-room, put-same, put-other, same-or-other, records-apart, record-no-sources}
 use Rattle.state.proofs.Steps.{View, LocalIn, slots, Agree, Local, steps-own, steps-others}
 
@@ -67,22 +65,14 @@ put-local shape Mine u w eu mu same = record {
   };
 }
 
-pub changed-local : (shape : Shape) (v n : ℕ) (f : InterruptRecord → InterruptRecord) → Exists shape (recordSlot v n) → Local shape (Of v n) (changed shape v n f)
-changed-local shape v n f e =
-    put-local shape (Of v n) (recordSlot v n) (λ s. wordOf (f (recordAt shape v n s))) e (inl refl)
-    (λ s r a. ap (λ (w : ℕ). wordOf (f (recordOf w))) (a .agree (recordSlot v n) e (inl refl)))
-
-pub sources-local : (shape : Shape) (v n : ℕ) (x : List ℕ → ℕ) → Exists shape (Sources v n) → ((s r : List ℕ) → Agree shape (Of v n) s r → x s ≡ x r)
-    → Local shape (Of v n) (λ s. withSources shape v n (x s) s)
-sources-local shape v n x e same = put-local shape (Of v n) (Sources v n) x e (inr refl) same
+-- the numbers from `first` up have slots of their own
+pub numbers-apart : (v first i j : ℕ) (t : Slot) → Of v (first + i) t → Of v (first + j) t → i ≡ j
+numbers-apart v first i j t a b = same-or i j (λ e. e) (λ d. absurd (one-number v (first + i) (first + j) t a b (λ p. d (omega arith))))
 
 -- steps on the numbers from `first` up: each does to its number what it alone would do, and no other slot changes
 module _ (shape : Shape) (v first n : ℕ) (f : ℕ → List ℕ → List ℕ) (s : List ℕ) (steps : (i : ℕ) → i < n → Local shape (Of v (first + i)) (f i)) where
-  run-apart : (i j : ℕ) (t : Slot) → Of v (first + i) t → Of v (first + j) t → i ≡ j
-  run-apart i j t a b = same-or i j (λ e. e) (λ d. absurd (one-number v (first + i) (first + j) t a b (λ p. d (omega arith))))
-
   pub run-written : Room shape s → (i : ℕ) → i < n → Agree shape (Of v (first + i)) (upTo f n s) (f i s)
-  run-written h i b = steps-own (slots shape) (λ j. Of v (first + j)) f run-apart n s steps h i b
+  run-written h i b = steps-own (slots shape) (λ j. Of v (first + j)) f (numbers-apart v first) n s steps h i b
 
   pub run-others : Room shape s → (t : Slot) → Exists shape t → ((i : ℕ) → i < n → Of v (first + i) t → ⊥) → wordAt shape t (upTo f n s) ≡ wordAt shape t s
   run-others h t e away = steps-others (slots shape) (λ j. Of v (first + j)) f n s steps h t e away

@@ -12,7 +12,7 @@ use Rattle.interrupt.specs.Record.{isReady}
 use Rattle.word.specs.Word.{recordOf}
 use Rattle.state.specs.declared.layout.Shape.{Shape}
 use Rattle.state.specs.Layout.{Slot, Spi, summaryPlace, stackStart, inSummary, place, Exists, Room, spiOf}
-use Rattle.state.specs.Words.{wordAt, put, readyBit, withReadyBit, summed, spisIn, Exact}
+use Rattle.state.specs.Words.{wordAt, put, readyBit, summed, spisIn, Exact}
 use Rattle.state.proofs.Accessors.{put-room, put-same, put-other, same-or-other}
 use Rattle.state.proofs.Places.{place-apart, off-summary, bit-in-summary, spi-slot}
 use Rattle.state.proofs.Summary.{SpiThere, spi-there, summed-set, ready-same, ready-other, ready-again, ready-spared, ready-comm}

@@ -55,7 +55,8 @@ module _ (view : View) (Mine : ℕ → view .Thing → Type 0) (f : ℕ → List
       ∙ steps-others n s (λ i b. steps i (omega arith)) h t e (λ i b. away i (omega arith))
 
   module _ (apart : (i j : ℕ) (t : view .Thing) → Mine i t → Mine j t → i ≡ j) where
-    before-last : (n : ℕ) (s : List ℕ) → ((i : ℕ) → i < n → LocalIn view (Mine i) (f i)) → view .Good s → AgreeIn view (Mine n) (upTo f n s) s
+    -- what has gone before leaves the next one's own things
+    pub before-last : (n : ℕ) (s : List ℕ) → ((i : ℕ) → i < n → LocalIn view (Mine i) (f i)) → view .Good s → AgreeIn view (Mine n) (upTo f n s) s
     before-last n s steps h = record { agree = λ t e m. steps-others n s steps h t e (λ i b mi. let p : i ≡ n = apart i n t mi m in omega arith) }
 
     pub steps-own : (n : ℕ) (s : List ℕ) → ((i : ℕ) → i < n → LocalIn view (Mine i) (f i)) → view .Good s

@@ -114,7 +114,7 @@ by-bits (suc n) x y a b h =
         at true q r = eqb-true m 1 (r ∙ q) ∙ sym (eqb-true l 1 q)
         at false q r = let c = eqb-false m 1 (r ∙ q) in let d = eqb-false l 1 q in omega arith
 
-under-power : (w : ℕ) → w < 2 ^ w
+pub under-power : (w : ℕ) → w < 2 ^ w
 under-power zero = omega arith
 under-power (suc w) = let p = pow-suc 2 w in let h = under-power w in omega arith
 

@@ -9,14 +9,14 @@ use Prim.Native.Nat.{ℕ, zero, suc, _<_}
 use native.Mathlib.Omega.{arith}
 use Rattle.interrupt.specs.declared.record.InterruptRecord.{InterruptRecord}
 use Rattle.word.specs.Word.{recordOf, wordOf}
 use Rattle.state.specs.declared.layout.Shape.{Shape}
 use Rattle.state.specs.Layout.{Slot, Exists, Room}
 use Rattle.state.specs.Loop.{upTo}
 use Rattle.state.specs.Words.{wordAt, put, recordSlot, recordAt, changed}
 use Rattle.state.proofs.Accessors.{put-room, put-other}
 use Rattle.state.proofs.Numbers.{Of, then-local, if-local, unless-local, put-local}
 use Rattle.state.proofs.Ready.{put-comm}
-use Rattle.state.proofs.Steps.{slots, Agree, Local, steps-room, steps-others}
+use Rattle.state.proofs.Steps.{slots, Agree, Local, steps-room, before-last}
 
 -- a step that leaves some slots alone: it keeps their words, and these may be written before it or after
 pub record Leaves (shape : Shape) (Mine : Slot → Type 0) (f : List ℕ → List ℕ) : Type 0 where
@@ -101,13 +101,9 @@ module _ (shape : Shape) (Mine : ℕ → Slot → Type 0) (apart : (i j : ℕ) (
   runs-merge (suc n) of og ok same =
       ap (g n) (sym (up-through shape g (f n) n (λ j c. og j (omega arith) .local .room) past (upTo f n s) (steps-room (slots shape) Mine f n s (λ i b. of i (omega arith) .local) h) .0))
       ∙ ap (λ (r : List ℕ). g n (f n r)) (runs-merge n (λ i b. of i (omega arith)) (λ i b. og i (omega arith)) (λ i b. ok i (omega arith)) (λ i b. same i (omega arith)))
-      ∙ same n (omega arith) (upTo k n s) (steps-room (slots shape) Mine k n s (λ i b. ok i (omega arith) .local) h) untouched
+      ∙ same n (omega arith) (upTo k n s) (steps-room (slots shape) Mine k n s (λ i b. ok i (omega arith) .local) h)
+      (before-last (slots shape) Mine k apart n s (λ i b. ok i (omega arith) .local) h)
     where
       past : (j : ℕ) → j < n → (r : List ℕ) → Room shape r → f n (g j r) ≡ g j (f n r)
       past j c r l =
           apart-comm shape (Mine j) (Mine n) (g j) (f n) (og j (omega arith)) (of n (omega arith)) (λ t mj mn. let p : j ≡ n = apart j n t mj mn in omega arith) r l
-
-      untouched : Agree shape (Mine n) (upTo k n s) s
-      untouched = record {
-        agree = λ t e m. steps-others (slots shape) Mine k n s (λ i b. ok i (omega arith) .local) h t e (λ i b mi. let p : i ≡ n = apart i n t mi m in omega arith);
-      }
