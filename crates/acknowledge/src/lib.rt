@@ -1,4 +1,6 @@
 // IAR: the best candidate goes to a vCPU, if it may interrupt what runs there.
+#![tactic(auto)]
+
 ghost use Rattle.std.specs.Prelude.{◌≡◌, ◌+◌, ◌*◌, ◌<◌};
 ghost use Rattle.state.specs.Layout.{Sources};
 ghost use Rattle.state.specs.Words.{Reached, HoldsSlot, changed, with_sources};
@@ -19,7 +21,7 @@ use state::{Entry, InterfaceValue, Shape};
 use targets::vcpu_bit;
 
 // What a read gives: a value, or refusal 7.
-#[derive(Drop)]
+#[derive(Clone, Copy)]
 pub enum Read {
     Value(u32),
     StackFull,

@@ -1,4 +1,6 @@
 // What a call answers, and what the calls have in common.
+#![tactic(auto)]
+
 ghost use Rattle.std.specs.Prelude.{◌≡◌, List, ℕ};
 ghost use Rattle.service.specs.Service.{Sound};
 ghost use Rattle.wake.specs.Halves.{wake_from};
@@ -10,14 +12,14 @@ use state::Shape;
 use wake::wake_set;
 
 // What a call that is not refused answers. `retired` is `IntId::SPURIOUS` for none.
-#[derive(Drop)]
+#[derive(Clone, Copy)]
 pub struct Reply {
     pub value: u32,
     pub wake: u8,
     pub retired: IntId,
 }
 
-#[derive(Drop)]
+#[derive(Clone, Copy)]
 pub enum Answer {
     Done(Reply),
     Refused(Refusal),

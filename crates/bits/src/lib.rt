@@ -1,4 +1,6 @@
 // The bit registers: one loop reads a word of any of them, one writes it.
+#![tactic(auto)]
+
 ghost use Rattle.std.specs.Prelude.{◌≡◌, ◌+◌, ◌*◌, ◌^◌, ◌<◌};
 ghost use Rattle.interrupt.specs.Record.{set_trigger};
 ghost use Rattle.word.specs.Word.{trigger_of};

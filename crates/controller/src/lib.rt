@@ -1,5 +1,7 @@
 // The public calls: setup, the two frames under their Rust names, device inputs, the message frame, what a host may look at, and moving a
 // guest. None asks anything of its caller. Mirrors the entries of v2.rs.
+#![tactic(auto)]
+
 pub mod start;
 
 pub use answer::{Answer, Reply};

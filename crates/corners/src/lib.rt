@@ -1,1 +1,2 @@
 // No code: the scope document's corner list, computed.
+#![tactic(auto)]

@@ -1,4 +1,6 @@
 // The registers of a CPU interface: what each reads, and what a write to it does. Mirrors the two tables at the top of v2.rs.
+#![tactic(auto)]
+
 ghost use Rattle.std.specs.Prelude.{◌≡◌};
 ghost use Rattle.cpu_interface.specs.CpuInterface.{read_register, after_read, write_register, write_retired, read_register_looks_up, write_register_looks_up, decodes, Reading, Writing};
 

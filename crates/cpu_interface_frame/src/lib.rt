@@ -1,4 +1,6 @@
 // The frame of a vCPU's CPU interface.
+#![tactic(auto)]
+
 ghost use Rattle.std.specs.Prelude.{◌≡◌};
 ghost use Rattle.state.specs.Layout.{Room};
 ghost use Rattle.service.specs.Service.{Sound};

@@ -1,4 +1,6 @@
 // The Distributor's frame.
+#![tactic(auto)]
+
 ghost use Rattle.std.specs.Prelude.{◌≡◌, List, ℕ};
 ghost use Rattle.service.specs.Service.{Sound};
 ghost use Rattle.places.specs.Places.{Located};

@@ -1,4 +1,6 @@
 // EOIR and DIR: what is under service ends, and is deactivated.
+#![tactic(auto)]
+
 ghost use Rattle.std.specs.Prelude.{◌≡◌, ◌<◌};
 ghost use Rattle.state.specs.Layout.{Room};
 ghost use Rattle.service.specs.Service.{Served};

@@ -1,16 +1,18 @@
 // Numbers in an image, in groups of seven bits: read and written in a slice of bytes.
+#![tactic(auto)]
+
 ghost use Rattle.std.specs.Prelude.{true, [], ◌∷◌, ◌≡◌, ℕ, ◌+◌, ◌^◌, ◌≤◌, ◌<◌, length};
 ghost use Rattle.groups.specs.declared.Found.TheVariants.{Number};
 ghost use Rattle.groups.specs.Groups.{groups, with_group, found_at, GroupHere, Wrote};
 
-#[derive(Drop)]
+#[derive(Clone, Copy)]
 pub enum Found {
     Number { value: u32, next: usize },
     Refused,
 }
 
 // What a number begins with: its last group, or one that more follow.
-#[derive(Drop)]
+#[derive(Clone, Copy)]
 enum Group {
     Last(u32),
     More(u32),

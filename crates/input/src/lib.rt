@@ -1,4 +1,6 @@
 // Device inputs: a line that is set, and a pulse.
+#![tactic(auto)]
+
 ghost use Rattle.std.specs.Prelude.{◌≡◌};
 ghost use Rattle.state.specs.Words.{Reached, changed};
 ghost use Rattle.service.specs.Service.{Sound};
@@ -16,14 +18,14 @@ use targets::read_target;
 use wake::quiet_among;
 
 // What a device does to its interrupt.
-#[derive(Drop)]
+#[derive(Clone, Copy)]
 pub enum Signal {
     Level(bool),
     Edge,
 }
 
 // A number that a device has, or none's: SGIs are no device's.
-#[derive(Drop)]
+#[derive(Clone, Copy)]
 pub enum InputNumber {
     Device(IntId),
     Outside,

@@ -8,20 +8,20 @@ ghost use Rattle.interrupt.specs.With.{with_trigger, with_mask, with_owner};
 use crate::types::{GicVcpuId, IntId, InterruptState, Priority, TriggerMode};
 
 // The vCPUs that an SPI is offered to; "unset" until it is first written.
-#[derive(Drop)]
+#[derive(Clone, Copy)]
 pub enum CpuTargetMask {
     Unset,
     Mask(u8),
 }
 
 // Who serves an interrupt in flight. The Rust keeps it in delivery slots.
-#[derive(Drop)]
+#[derive(Clone, Copy)]
 pub enum Owner {
     Nobody,
     Vcpu(GicVcpuId),
 }
 
-#[derive(Drop)]
+#[derive(Clone, Copy)]
 pub struct InterruptRecord {
     pub enabled: bool,
     pub pending: bool,
@@ -36,7 +36,7 @@ pub struct InterruptRecord {
 }
 
 // What `synchronize_inflight` gives: the record, and the merged state.
-#[derive(Drop)]
+#[derive(Clone, Copy)]
 pub struct Synchronized {
     pub after: InterruptRecord,
     pub merged: InterruptState,

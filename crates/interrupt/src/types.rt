@@ -3,31 +3,31 @@ ghost use Rattle.std.specs.Prelude.{◌≡◌};
 ghost use Rattle.interrupt.specs.Types.{decoded, is_valid, is_sgi, is_private_id, priority_of, is_level, starting_trigger, pending_in, active_in};
 
 // An interrupt number: SGIs 0 to 15, PPIs 16 to 31, SPIs from 32.
-#[derive(Drop)]
+#[derive(Clone, Copy)]
 pub struct IntId(pub u32);
 
 // A vCPU number: any number can be given in a call, and the calls look it up.
-#[derive(Drop)]
+#[derive(Clone, Copy)]
 pub struct GicVcpuId(pub usize);
 
 // A priority: the smaller number is the more urgent.
-#[derive(Drop)]
+#[derive(Clone, Copy)]
 pub struct Priority(pub u8);
 
 // What a number is: an interrupt's, or none's.
-#[derive(Drop)]
+#[derive(Clone, Copy)]
 pub enum DecodedIntId {
     Valid(IntId),
     Reserved,
 }
 
-#[derive(Drop)]
+#[derive(Clone, Copy)]
 pub enum TriggerMode {
     Level,
     Edge,
 }
 
-#[derive(Drop)]
+#[derive(Clone, Copy)]
 pub enum InterruptState {
     Inactive,
     Pending,

@@ -1,6 +1,8 @@
 // Prints what every transition of a record gives on every record state, for the comparison with interrupt.rs (tests/rust).
 // A record is shown after a trip through its word, as EPAIRLt:pp:mm:o: a letter for each flag that is set (enabled, pending, active,
 // in flight, redelivery noted, line asserted), l or e for the trigger, priority and target mask in hexadecimal (.. is unset), the owner.
+#![tactic(auto)]
+
 ghost use Rattle.std.specs.Prelude.{◌<◌, ◌^◌};
 
 use interrupt::record::{after_level, after_pulse};

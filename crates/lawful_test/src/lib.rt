@@ -1,5 +1,7 @@
 // Whether the words of a state are lawful: one pass, in which each record and each entry under service is read once.
 // What lawful means is in crates/lawful; that the test says just this, in proofs/Passing.antt.
+#![tactic(auto)]
+
 ghost use Rattle.std.specs.Prelude.{◌≡◌, ◌-◌, ◌≤◌};
 ghost use Rattle.state.specs.Layout.{Limits, Sources};
 ghost use Rattle.state.specs.Loop.{every_below};

@@ -1,4 +1,6 @@
 // Loading: a controller from its image, into lent words.
+#![tactic(auto)]
+
 ghost use Rattle.load.specs.Load.{LoadPromise, ImageShapePromise, stored};
 ghost use Rattle.std.specs.Prelude.{◌≡◌};
 ghost use Rattle.state.specs.Layout.{Room};

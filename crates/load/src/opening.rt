@@ -7,13 +7,13 @@ use groups::Found;
 use state::lent::validate_limits;
 use state::{Limited, Shape};
 
-#[derive(Drop)]
+#[derive(Clone, Copy)]
 pub enum FoundShape {
     Read { shape: Shape, next: usize },
     Refused,
 }
 
-#[derive(Drop)]
+#[derive(Clone, Copy)]
 pub enum Opened {
     Read {
         shape: Shape,

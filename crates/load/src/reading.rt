@@ -17,7 +17,7 @@ const GROUPS: u32 = 2;
 // In a mask's place: no mask is set.
 const UNSET: u32 = 256;
 
-#[derive(Drop)]
+#[derive(Clone, Copy)]
 pub enum FoundRegisters {
     Read {
         control: u32,
@@ -28,14 +28,14 @@ pub enum FoundRegisters {
     Refused,
 }
 
-#[derive(Drop)]
+#[derive(Clone, Copy)]
 pub enum FoundEntry {
     Read { entry: Entry, next: usize },
     Refused,
 }
 
 // What follows a private record's flags and priority.
-#[derive(Drop)]
+#[derive(Clone, Copy)]
 pub enum FoundRest {
     Read {
         owner: Owner,
@@ -46,7 +46,7 @@ pub enum FoundRest {
     Refused,
 }
 
-#[derive(Drop)]
+#[derive(Clone, Copy)]
 pub enum FoundRecord {
     Read {
         record: InterruptRecord,

@@ -19,7 +19,7 @@ use state::words::{
 use state::{Entry, InterfaceValue, Shape};
 
 // A place of the image, or that it is none.
-#[derive(Drop)]
+#[derive(Clone, Copy)]
 pub enum Place {
     At(usize),
     Refused,

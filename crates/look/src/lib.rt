@@ -1,4 +1,6 @@
 // What a host may look at beside the registers: a vCPU's interrupt line, and an interrupt's record. Neither call changes anything.
+#![tactic(auto)]
+
 ghost use Rattle.look.specs.Look.{IrqLevelPromise, InterruptWordPromise};
 
 use answer::{Answer, absent, gave};

@@ -1,4 +1,6 @@
 // A GICv2m frame, by which a device rings an SPI with a memory write. Which SPIs is told by a window that the caller gives with each call.
+#![tactic(auto)]
+
 ghost use Rattle.std.specs.Prelude.{◌≡◌};
 ghost use Rattle.service.specs.Service.{Sound};
 ghost use Rattle.answer.specs.Answer.{outcome};
@@ -19,27 +21,27 @@ const V2M_SIZE: u64 = 0x1000;
 const REGISTER_VALUES: u64 = 0x1_0000_0000;
 
 // The SPIs that a frame rings: the first number, and how many.
-#[derive(Drop)]
+#[derive(Clone, Copy)]
 pub struct Window {
     pub first: IntId,
     pub count: u32,
 }
 
 // What a caller's two numbers are: a window, or none.
-#[derive(Drop)]
+#[derive(Clone, Copy)]
 pub enum DecodedWindow {
     Valid(Window),
     Outside,
 }
 
-#[derive(Drop)]
+#[derive(Clone, Copy)]
 pub enum MessageRegister {
     Typer,
     Setspi,
     Other,
 }
 
-#[derive(Drop)]
+#[derive(Clone, Copy)]
 pub enum MessageAccess {
     Refused(Refusal),
     At(MessageRegister),

@@ -1,5 +1,7 @@
 // What an accepted access to the Distributor reads, what a write to it does, and where it looks up its vCPU. Mirrors the two tables at the
 // top of v2.rs.
+#![tactic(auto)]
+
 ghost use Rattle.std.specs.Prelude.{◌≡◌};
 ghost use Rattle.places.specs.Places.{byte_looks_up, sends, read_place_looks_up, write_place_looks_up, ringed, read_place, write_place, Ringing, PlaceRead, PlaceWritten};
 

@@ -1,10 +1,12 @@
 // "Loading uses a reader that carries the image and its place." It is taken apart for `groups::number_at`; who loads calls `read`.
+#![tactic(auto)]
+
 ghost use Rattle.std.specs.Prelude.{◌≡◌, ◌≤◌};
 ghost use Rattle.groups.specs.Groups.{found_at};
 
 use groups::Found;
 
-#[derive(Drop)]
+#[derive(Clone, Copy)]
 pub struct Reader<'a> {
     pub image: &'a [u8],
     pub at: usize,

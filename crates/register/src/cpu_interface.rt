@@ -6,7 +6,7 @@ use crate::frame::{AccessWidth, Refusal, validate_frame_access};
 
 pub const CPU_INTERFACE_SIZE: u64 = 0x2000;
 
-#[derive(Drop)]
+#[derive(Clone, Copy)]
 pub enum CpuInterfaceRegister {
     Ctlr,
     Pmr,
@@ -25,7 +25,7 @@ pub enum CpuInterfaceRegister {
     Other,
 }
 
-#[derive(Drop)]
+#[derive(Clone, Copy)]
 pub enum CpuInterfaceAccess {
     Refused(Refusal),
     At(CpuInterfaceRegister),

@@ -13,14 +13,14 @@ use interrupt::IntId;
 pub const DISTRIBUTOR_SIZE: u64 = 0x1000;
 
 // What an accepted access meets. `first` is the number of the first interrupt that it reaches, 0 where the class has no numbers.
-#[derive(Drop)]
+#[derive(Clone, Copy)]
 pub struct Place {
     pub class: Class,
     pub first: IntId,
     pub private: bool,
 }
 
-#[derive(Drop)]
+#[derive(Clone, Copy)]
 pub enum DistributorAccess {
     Refused(Refusal),
     // A private register at a width that it does not take: refused by 3 where there is no such vCPU, else by 2.

@@ -3,7 +3,7 @@ ghost use Rattle.std.specs.Prelude.{◌≡◌};
 ghost use Rattle.register.specs.Frame.{decoded_width, bytes, is_dword, is_qword, refusal_number, aligned, in_frame};
 
 // The four widths of an access: no other can be given.
-#[derive(Drop)]
+#[derive(Clone, Copy)]
 pub enum AccessWidth {
     Byte,
     Word,
@@ -12,14 +12,14 @@ pub enum AccessWidth {
 }
 
 // What a number of bytes is: a width, or none.
-#[derive(Drop)]
+#[derive(Clone, Copy)]
 pub enum DecodedWidth {
     Valid(AccessWidth),
     Reserved,
 }
 
 // Why a call is refused, in the order of the refusals' numbers.
-#[derive(Drop)]
+#[derive(Clone, Copy)]
 pub enum Refusal {
     // Unaligned, or the end overflows or passes the frame.
     Access,

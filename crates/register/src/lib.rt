@@ -1,5 +1,7 @@
 // The register map: how a frame is accessed, which register of the Distributor or of a CPU interface an access meets, and which
 // accesses are refused for their offset or width alone. It holds no state.
+#![tactic(auto)]
+
 pub mod cpu_interface;
 pub mod dispatch;
 pub mod distributor;

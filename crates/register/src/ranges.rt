@@ -3,7 +3,7 @@ ghost use Rattle.std.specs.Prelude.{◌≡◌};
 ghost use Rattle.register.specs.Ranges.{bit_number, byte_number, class_number, class_of, range_of};
 
 // Registers with one bit for each interrupt, or two.
-#[derive(Drop)]
+#[derive(Clone, Copy)]
 pub enum BitRegister {
     Igroupr,
     Isenabler,
@@ -16,7 +16,7 @@ pub enum BitRegister {
 }
 
 // Registers with a byte for each interrupt.
-#[derive(Drop)]
+#[derive(Clone, Copy)]
 pub enum ByteRegister {
     Ipriorityr,
     Itargetsr,
@@ -25,7 +25,7 @@ pub enum ByteRegister {
 }
 
 // Which register, or array of registers, a place of the Distributor belongs to.
-#[derive(Drop)]
+#[derive(Clone, Copy)]
 pub enum Class {
     Ctlr,
     Typer,
@@ -37,7 +37,7 @@ pub enum Class {
 }
 
 // From `first`, `length` bytes.
-#[derive(Drop)]
+#[derive(Clone, Copy)]
 pub struct RegisterRange {
     pub first: u64,
     pub length: u64,

@@ -2,6 +2,8 @@
 // A line is a 32-bit place: d for the Distributor or c for a CPU interface, the offset, and an answer for each start in the place, 0 to
 // 3 bytes on, at each width, 1, 2, 4 and 8. An answer is a refusal's number or a register with the first number that the access reaches,
 // - for another place; own: stands before it where the register is private, and own:2 is refused by 2 after the vCPU was looked up.
+#![tactic(auto)]
+
 ghost use Rattle.std.specs.Prelude.{◌+◌, ◌*◌, ◌≤◌, ◌^◌};
 
 use libc::STDOUT_FILENO;
@@ -10,7 +12,7 @@ use register::{
     DistributorAccess, Place, Refusal,
 };
 
-#[derive(Drop)]
+#[derive(Clone, Copy)]
 enum Frame {
     Distributor,
     CpuInterface,

@@ -11,14 +11,14 @@ pub const KEPT: usize = 81;
 const ANSWER: usize = 30;
 
 // Where feeding stopped: so much of the input is read, so much text is put, and so many bytes of a line are kept.
-#[derive(Drop)]
+#[derive(Clone, Copy)]
 pub struct Progress {
     pub consumed: usize,
     pub produced: usize,
     pub length: usize,
 }
 
-#[derive(Drop)]
+#[derive(Clone, Copy)]
 pub struct Place {
     pub at: usize,
     pub length: usize,

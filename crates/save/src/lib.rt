@@ -1,4 +1,6 @@
 // Saving: the image of a controller, into a lent buffer.
+#![tactic(auto)]
+
 ghost use Rattle.std.specs.Prelude.{◌≡◌, leb, length};
 ghost use Rattle.state.specs.Layout.{Limits};
 ghost use Rattle.lawful.specs.Lawful.{Lawful};

@@ -1,4 +1,6 @@
 // The runner's lines: what a line asks for, and the text of an answer. It holds no state and knows no controller.
+#![tactic(auto)]
+
 pub mod line;
 pub mod number;
 pub mod request;

@@ -7,14 +7,14 @@ use interrupt::GicVcpuId;
 use register::{AccessWidth, DecodedWidth};
 
 // `n count limit`.
-#[derive(Drop)]
+#[derive(Clone, Copy)]
 pub struct Size {
     pub count: u64,
     pub limit: u64,
 }
 
 // `d vcpu offset width` and `c vcpu offset width`.
-#[derive(Drop)]
+#[derive(Clone, Copy)]
 pub struct Access {
     pub vcpu: GicVcpuId,
     pub offset: u64,
@@ -22,7 +22,7 @@ pub struct Access {
 }
 
 // `D vcpu offset width value` and `C vcpu offset width value`.
-#[derive(Drop)]
+#[derive(Clone, Copy)]
 pub struct Store {
     pub vcpu: GicVcpuId,
     pub offset: u64,
@@ -31,7 +31,7 @@ pub struct Store {
 }
 
 // `l vcpu id 0|1`.
-#[derive(Drop)]
+#[derive(Clone, Copy)]
 pub struct LineLevel {
     pub vcpu: GicVcpuId,
     pub number: u64,
@@ -39,13 +39,13 @@ pub struct LineLevel {
 }
 
 // `p vcpu id`.
-#[derive(Drop)]
+#[derive(Clone, Copy)]
 pub struct Input {
     pub vcpu: GicVcpuId,
     pub number: u64,
 }
 
-#[derive(Drop)]
+#[derive(Clone, Copy)]
 pub enum Request {
     Setup(Size),
     ReadDistributor(Access),
@@ -58,7 +58,7 @@ pub enum Request {
 }
 
 // The numbers of a line: no form has more than four.
-#[derive(Drop)]
+#[derive(Clone, Copy)]
 pub enum Numbers {
     Zero,
     One(u64),
@@ -68,13 +68,13 @@ pub enum Numbers {
     Other,
 }
 
-#[derive(Drop)]
+#[derive(Clone, Copy)]
 pub enum AccessFields {
     Reads(Access),
     NoAccess,
 }
 
-#[derive(Drop)]
+#[derive(Clone, Copy)]
 pub enum StoreFields {
     Writes(Store),
     NoStore,

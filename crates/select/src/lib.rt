@@ -1,4 +1,6 @@
 // Selection: which interrupt a vCPU is offered. The private records are visited one by one, of the SPIs those whose bit is set.
+#![tactic(auto)]
+
 ghost use Rattle.std.specs.Prelude.{◌≡◌, ◌<◌, ◌-◌, ◌*◌};
 ghost use Rattle.state.specs.Layout.{spi_start, Room};
 ghost use Rattle.state.specs.declared.layout.InterfaceValue.TheVariants.{PriorityMask};
@@ -12,13 +14,13 @@ use state::words::{distributor_enabled, interface_value};
 use state::{InterfaceValue, Shape};
 
 // An interrupt that a vCPU may be given, with its priority.
-#[derive(Drop)]
+#[derive(Clone, Copy)]
 pub struct Candidate {
     pub intid: IntId,
     pub priority: Priority,
 }
 
-#[derive(Drop)]
+#[derive(Clone, Copy)]
 pub enum Selected {
     Best(Candidate),
     Nothing,
@@ -36,7 +38,7 @@ const MASK_SET: u32 = 128;
 const FIRST_TARGET: u32 = 0x1_0000;
 
 // The bits that a test cares for, and how they are wanted.
-#[derive(Drop)]
+#[derive(Clone, Copy)]
 struct WordTest {
     care: u32,
     wanted: u32,

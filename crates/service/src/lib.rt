@@ -1,4 +1,6 @@
 // What a vCPU has under service: a stack of numbers and priorities, the newest running.
+#![tactic(auto)]
+
 ghost use Rattle.std.specs.Prelude.{◌≡◌, ◌<◌};
 ghost use Rattle.state.specs.Layout.{stack_capacity};
 ghost use Rattle.service.specs.Service.{depth_at, stack_at, running, is_newest, pushed, popped, dropped, Served};

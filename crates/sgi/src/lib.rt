@@ -1,4 +1,6 @@
 // The sources of SGIs: who has sent one, and sending it.
+#![tactic(auto)]
+
 ghost use Rattle.std.specs.Prelude.{◌≡◌, ◌<◌};
 ghost use Rattle.state.specs.Layout.{Room, Sources};
 ghost use Rattle.interrupt.specs.Record.{set_pending};
@@ -16,7 +18,7 @@ const TARGETS: u32 = 0x1_0000;
 const FILTER: u32 = 0x100_0000;
 
 // Whom a write to SGIR names.
-#[derive(Drop)]
+#[derive(Clone, Copy)]
 pub enum SgiTarget {
     Mask(u8),
     AllExceptSelf,

@@ -34,14 +34,14 @@ pub const LARGEST_SIZE: usize = HEADER_WORDS
     + STACK_CAPACITY as usize * 8;
 
 // How many vCPUs, and the first number that is no interrupt.
-#[derive(Drop)]
+#[derive(Clone, Copy)]
 pub struct Shape {
     pub count: usize,
     pub limit: u32,
 }
 
 // The words that a CPU interface has beside its stack. `Depth` is how many entries the stack holds.
-#[derive(Drop)]
+#[derive(Clone, Copy)]
 pub enum InterfaceValue {
     Control,
     PriorityMask,

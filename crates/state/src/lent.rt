@@ -9,14 +9,14 @@ use crate::words::interface_value;
 use interrupt::GicVcpuId;
 
 // A count and a limit, in the limits or not.
-#[derive(Drop)]
+#[derive(Clone, Copy)]
 pub enum Limited {
     Within(Shape),
     Outside,
 }
 
 // What lent words are.
-#[derive(Drop)]
+#[derive(Clone, Copy)]
 pub enum Lent {
     Sound(Shape),
     Broken,

@@ -13,7 +13,7 @@ use interrupt::{GicVcpuId, IntId, InterruptRecord, Priority};
 use word::{decode, encode};
 
 // What a vCPU has under service: an acknowledged interrupt and its priority.
-#[derive(Drop)]
+#[derive(Clone, Copy)]
 pub struct Entry {
     pub intid: IntId,
     pub priority: Priority,

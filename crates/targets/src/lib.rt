@@ -1,4 +1,6 @@
 // Target bytes: whom an SPI is offered to.
+#![tactic(auto)]
+
 ghost use Rattle.std.specs.Prelude.{◌≡◌, ◌^◌, ◌<◌};
 ghost use Rattle.state.specs.Layout.{Limits, Room};
 ghost use Rattle.targets.specs.Targets.{own_byte, read_target, existing_bits, write_target};

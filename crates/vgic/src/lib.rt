@@ -1,4 +1,6 @@
 // The C face of the public calls, over numbers and slices: `rt staticlib vgic` makes libvgic.a of it. include/vgic.h declares it.
+#![tactic(auto)]
+
 ghost use Rattle.std.specs.Prelude.{◌≡◌, List, ℕ};
 ghost use Rattle.answer.specs.Answer.{outcome};
 ghost use Rattle.vgic.specs.Packed.{packed_answer, state_words, VgicSetup, VgicReadDistributor, VgicWriteDistributor, VgicReadCpuInterface, VgicWriteCpuInterface, VgicSetLevel, VgicPulse, VgicReadV2m, VgicWriteV2m, VgicIrqLevel, VgicInterrupt, VgicSave, VgicLoad, VgicImageShape, image_room};

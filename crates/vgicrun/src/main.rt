@@ -1,5 +1,7 @@
 // Reads lines from standard input and prints the answer to each, block by block. After each block all that it asked for is written, so
 // that whoever types a line has its answer at once.
+#![tactic(auto)]
+
 ghost use Rattle.std.specs.Prelude.{true, ◌≡◌, ◌≤◌, length};
 ghost use Rattle.runner.specs.Runner.{start_words};
 ghost use Rattle.runner.specs.Feeding.{Begun, BytesRun, RestAnswered};
@@ -9,7 +11,7 @@ use runner::{KEPT, feed, feed_rest};
 use state::layout::LARGEST_SIZE;
 
 // Whether to go on, and how many bytes of a line are kept.
-#[derive(Drop)]
+#[derive(Clone, Copy)]
 struct Turn {
     more: bool,
     begun: usize,

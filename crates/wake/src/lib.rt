@@ -1,4 +1,6 @@
 // Wake sets: bit v for a vCPU that an IAR read would give nothing before a call, and an interrupt after it.
+#![tactic(auto)]
+
 ghost use Rattle.std.specs.Prelude.{◌≡◌, ◌*◌, ◌^◌, ◌<◌};
 ghost use Rattle.word.specs.Word.{bit_of};
 ghost use Rattle.service.specs.Service.{Served, Sound};
@@ -13,7 +15,7 @@ use state::layout::STACK_CAPACITY;
 use targets::vcpu_bit;
 
 // What an IAR read would answer; one that 7 would refuse answers neither.
-#[derive(Drop)]
+#[derive(Clone, Copy)]
 pub enum IarAnswer {
     Spurious,
     Number,

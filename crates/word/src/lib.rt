@@ -1,4 +1,6 @@
 // A record as one word of the lent state: eight flags, then three bytes.
+#![tactic(auto)]
+
 ghost use Rattle.std.specs.Prelude.{◌≡◌, ◌<◌, [], not};
 ghost use Rattle.word.specs.Word.{bit_of, trigger_of, mask_of, owner_of, record_of, is_set, mask_byte, owner_byte, flags_then, word_of};
 ghost use Rattle.word.specs.Fields.{packed};
