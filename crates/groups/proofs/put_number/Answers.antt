@@ -1,0 +1,34 @@
+-- `groups::put_number` meets its contract. Assumes nothing.
+use Rattle.groups.proofs.Numbers.{groups_short, groups_two, groups_one, groups_some}
+use Rattle.groups.proofs.Writing.{wrote_then, wrote_length}
+use borrow.Author.Rules.{rules}
+use native.Mathlib.Omega.{arith}
+use mathlib.Core.Path.{ap}
+use lib.ListN.{length}
+use Rattle.groups.proofs.put_number.Goals as goal
+
+pub put_byte-requires : goal.put_byte-requires
+put_byte-requires c =
+    let one = groups_one c.args.n c.if-n-lt128.true in
+    (omega arith, λ e. let room = c.requires.2 e in omega arith)
+
+pub returns-then-n-lt128 : goal.returns-then-n-lt128
+returns-then-n-lt128 c = rw (groups_short _ c.if-n-lt128.true) c.put_byte.ensures
+
+pub put_byte-next-requires : goal.put_byte-next-requires
+put_byte-next-requires c =
+    let some = groups_some c.args.n in
+    (omega arith, λ e. let room = c.requires.2 e in omega arith)
+
+pub put_byte-requires-2 : goal.put_byte-requires-2
+put_byte-requires-2 c =
+    let first = c.put_byte-next.ensures in
+    let past = first.past in
+    let same = wrote_length first in
+    let two = ap length (groups_two c.args.n c.if-n-lt128.false c.requires.1) in
+    (omega arith, λ e. let room = c.requires.2 e in omega arith)
+
+pub returns : goal.returns
+returns c =
+    rw (groups_two c.args.n c.if-n-lt128.false c.requires.1)
+    (wrote_then c.put_byte-next.ensures c.put_byte-2.ensures)
