@@ -1,0 +1,6 @@
+-- `state::fresh::starting_word` meets its contract. Assumes nothing.
+use borrow.Author.Rules.{rules}
+use Rattle.state.proofs.fresh.starting_word.Goals as goal
+
+pub returns : goal.returns
+returns c = simp (c.encode.ensures, c.starting.ensures)

@@ -1,0 +1,6 @@
+-- `state::words::put_interface_value` meets its contract. Assumes nothing.
+use borrow.Author.Rules.{rules}
+use Rattle.state.proofs.words.put_interface_value.Goals as goal
+
+pub returns : goal.returns
+returns c = simp (c.kept.ensures, c.interface_place-at.ensures.at)
