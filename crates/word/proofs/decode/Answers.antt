@@ -1,5 +1,4 @@
 -- `decode` is `record_of`, by what its callees ensure.
-use borrow.Author.Rules.{rules}
 use native.Mathlib.Nat.{div-one}
 use Rattle.word.specs.Word.{record_of}
 use Rattle.word.proofs.decode.Goals as goal

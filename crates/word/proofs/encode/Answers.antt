@@ -1,5 +1,4 @@
 -- `encode` is `word_of`: the flags, and three bytes above them.
-use borrow.Author.Rules.{rules}
 use native.Mathlib.Omega.{arith}
 use Rattle.word.specs.Fields.{packed}
 use Rattle.word.specs.Word.{word_of}

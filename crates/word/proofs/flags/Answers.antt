@@ -1,5 +1,4 @@
 -- `flags` is the word of the flags alone: each is 0 or 1, so that no sum wraps.
-use borrow.Author.Rules.{rules}
 use native.Mathlib.Omega.{arith}
 use Rattle.word.specs.Fields.{packed}
 use Rattle.word.proofs.flags.Goals as goal

@@ -1,5 +1,4 @@
 -- `mask_of` is `mask_of`: each way by its test.
-use borrow.Author.Rules.{rules}
 use Rattle.word.proofs.mask_of.Goals as goal
 
 pub returns-then-set : goal.returns-then-set

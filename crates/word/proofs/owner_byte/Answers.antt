@@ -1,5 +1,4 @@
 -- `owner_byte` is `owner_byte`: each way by the variant that was found.
-use borrow.Author.Rules.{rules}
 use Rattle.word.proofs.owner_byte.Goals as goal
 
 pub returns-in-Vcpu : goal.returns-in-Vcpu

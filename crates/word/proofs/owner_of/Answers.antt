@@ -1,5 +1,4 @@
 -- `owner_of` is `owner_of`: each way by its test.
-use borrow.Author.Rules.{rules}
 use borrow.Author.Tests.{eq-eqb, ne_eqb}
 use Rattle.word.proofs.owner_of.Goals as goal
 

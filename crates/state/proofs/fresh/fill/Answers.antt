@@ -1,11 +1,9 @@
 -- `state::fresh::fill` meets its contract. Assumes nothing.
 use mathlib.Core.Path.{◌≡◌}
-use Prim.Native.Nat.{◌≤◌, ◌-◌}
 use native.Mathlib.Numerals.{add-one}
 use native.Mathlib.Omega.{arith}
-use lib.ListN.{length}
 use borrow.Author.Rules.{rules}
-use Rattle.state.specs.Fresh.{started_at, fresh}
+use Rattle.state.specs.Fresh.{fresh}
 use Rattle.state.specs.Layout.{size}
 use Rattle.state.specs.Loop.{up_to}
 use Rattle.state.proofs.fresh.fill.Goals as goal

@@ -1,5 +1,4 @@
 -- `state::fresh::header_word` meets its contract. Assumes nothing.
-use borrow.Author.Rules.{rules}
 use borrow.Author.Tests.{eq-eqb, ne_eqb}
 use Rattle.state.specs.Layout.{header_slot}
 use Rattle.state.proofs.fresh.header_word.Goals as goal

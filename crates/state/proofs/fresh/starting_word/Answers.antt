@@ -1,5 +1,4 @@
 -- `state::fresh::starting_word` meets its contract. Assumes nothing.
-use borrow.Author.Rules.{rules}
 use Rattle.state.proofs.fresh.starting_word.Goals as goal
 
 pub returns : goal.returns

@@ -1,7 +1,6 @@
 -- `state::fresh::word_at` meets its contract. Assumes nothing.
 use mathlib.Core.Path.{◌≡◌, sym}
 use native.Mathlib.Omega.{arith}
-use borrow.Author.Rules.{rules}
 use borrow.Author.Tests.{lt-ltb, le-ltb, lt-leb}
 use Rattle.state.specs.Layout.{header_words, slot_at, spi_start, spi_end}
 use Rattle.state.proofs.Places.{tail_starts}

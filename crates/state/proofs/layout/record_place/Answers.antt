@@ -1,8 +1,6 @@
 -- `state::layout::record_place` meets its contract. Assumes nothing.
 use mathlib.Core.Path.{sym, ◌∙◌}
 use Prim.Native.Nat.{◌≤◌, ◌<◌}
-use native.Mathlib.Omega.{arith}
-use borrow.Author.Rules.{rules}
 use borrow.Author.Tests.{ltb-true, ltb-false}
 use Rattle.state.specs.Words.{record_slot}
 use Rattle.state.proofs.layout.record_place.Goals as goal

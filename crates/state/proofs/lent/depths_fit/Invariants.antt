@@ -1,18 +1,12 @@
--- [[["loop", "loop-v"], ["words", "shape", "count", "v"]]]
 use mathlib.Core.Bool.{true}
-use mathlib.Core.Path.{◌≡◌, sym}
+use mathlib.Core.Path.{◌≡◌}
 use Prim.Native.Nat.{◌≤◌, ◌-◌}
-use native.Mathlib.Numerals.{add-one}
-use native.Mathlib.Omega.{arith}
-use borrow.Author.Rules.{rules}
-use borrow.Author.Tests.{le-leb, lt-leb}
 use Rattle.state.specs.Lent.{depth_fits}
 use Rattle.state.specs.Loop.{every_below}
-use Rattle.state.proofs.Tests.{every_fails}
 use Rattle.state.proofs.lent.depths_fit.Given as goal
 
-abbrev pub invariant-loop : goal.invariant-loop
-invariant-loop l = (l.v ≤ l.count) × (every_below (depth_fits l.shape l.words) l.v ≡ true)
+abbrev pub invariant-loop-v : goal.invariant-loop-v
+invariant-loop-v l = (l.v ≤ l.count) × (every_below (depth_fits l.shape l.words) l.v ≡ true)
 
-abbrev pub decreases-loop : goal.decreases-loop
-decreases-loop l = l.count - l.v
+abbrev pub decreases-loop-v : goal.decreases-loop-v
+decreases-loop-v l = l.count - l.v

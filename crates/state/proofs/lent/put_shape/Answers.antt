@@ -1,7 +1,6 @@
 -- `state::lent::put_shape` meets its contract. Assumes nothing.
 use native.Mathlib.Omega.{arith}
 use lib.ListN.{length-set}
-use borrow.Author.Rules.{rules}
 use Rattle.state.proofs.lent.put_shape.Goals as goal
 
 pub bounds-words-1 : goal.bounds-words-1

@@ -2,7 +2,6 @@
 use mathlib.Core.Path.{◌≡◌}
 use native.Mathlib.Omega.{arith}
 use lib.ListN.{get_or, get_or-eq_default}
-use borrow.Author.Rules.{rules}
 use Rattle.state.proofs.Validated.{no_limit}
 use Rattle.state.proofs.lent.stored_shape.Goals as goal
 

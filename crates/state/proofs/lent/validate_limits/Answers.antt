@@ -1,5 +1,4 @@
 -- `state::lent::validate_limits` meets its contract. Assumes nothing.
-use borrow.Author.Rules.{rules}
 use borrow.Author.Tests.{le-leb, lt-leb}
 use Rattle.state.specs.Lent.{limited}
 use Rattle.state.proofs.lent.validate_limits.Goals as goal

@@ -1,9 +1,7 @@
 -- `state::words::clear_summary` meets its contract. Assumes nothing.
 use mathlib.Core.Path.{◌≡◌, ◌∙◌}
-use Prim.Native.Nat.{◌+◌, ◌-◌, ◌≤◌}
 use native.Mathlib.Numerals.{add-one}
 use native.Mathlib.Omega.{arith}
-use lib.ListN.{length, set}
 use borrow.Author.Rules.{rules}
 use Rattle.state.specs.Layout.{summary_words}
 use Rattle.state.specs.Loop.{up_to}

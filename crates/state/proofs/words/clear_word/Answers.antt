@@ -2,7 +2,6 @@
 use mathlib.Core.Path.{sym, ap, ◌∙◌}
 use lib.ListN.{set}
 use lib.Seq.{set-get_or}
-use borrow.Author.Rules.{rules}
 use Rattle.state.proofs.words.clear_word.Goals as goal
 
 pub returns-else-words-at-ne0 : goal.returns-else-words-at-ne0

@@ -1,5 +1,4 @@
 -- `state::words::distributor_enabled` meets its contract. Assumes nothing.
-use borrow.Author.Rules.{rules}
 use Rattle.state.proofs.words.distributor_enabled.Goals as goal
 
 pub returns : goal.returns

@@ -1,5 +1,4 @@
 -- `state::words::entry_of` meets its contract. Assumes nothing.
-use borrow.Author.Rules.{rules}
 use Rattle.state.proofs.words.entry_of.Goals as goal
 
 pub returns : goal.returns

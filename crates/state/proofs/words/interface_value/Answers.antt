@@ -1,5 +1,4 @@
 -- `state::words::interface_value` meets its contract. Assumes nothing.
-use borrow.Author.Rules.{rules}
 use Rattle.state.proofs.words.interface_value.Goals as goal
 
 pub returns : goal.returns

@@ -1,5 +1,4 @@
 -- `state::words::put_distributor_control` meets its contract. Assumes nothing.
-use borrow.Author.Rules.{rules}
 use Rattle.state.proofs.words.put_distributor_control.Goals as goal
 
 pub returns : goal.returns

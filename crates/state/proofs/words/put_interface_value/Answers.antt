@@ -1,5 +1,4 @@
 -- `state::words::put_interface_value` meets its contract. Assumes nothing.
-use borrow.Author.Rules.{rules}
 use Rattle.state.proofs.words.put_interface_value.Goals as goal
 
 pub returns : goal.returns

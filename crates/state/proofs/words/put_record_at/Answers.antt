@@ -1,6 +1,5 @@
 -- `state::words::put_record_at` meets its contract. Assumes nothing.
-use mathlib.Core.Path.{◌≡◌, sym, ◌∙◌}
-use borrow.Author.Rules.{rules}
+use mathlib.Core.Path.{sym, ◌∙◌}
 use Rattle.state.proofs.Accessors.{record_private, record_spi, record_exists}
 use Rattle.state.proofs.words.put_record_at.Goals as goal
 

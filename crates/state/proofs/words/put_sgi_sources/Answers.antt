@@ -1,5 +1,4 @@
 -- `state::words::put_sgi_sources` meets its contract. Assumes nothing.
-use borrow.Author.Rules.{rules}
 use Rattle.state.proofs.words.put_sgi_sources.Goals as goal
 
 pub returns : goal.returns

@@ -1,8 +1,6 @@
 -- `state::words::put_spi_word` meets its contract. Assumes nothing.
-use mathlib.Core.Path.{◌≡◌}
 use native.Mathlib.Omega.{arith}
 use lib.ListN.{length-set}
-use borrow.Author.Rules.{rules}
 use Rattle.state.specs.Words.{with_ready_bit}
 use Rattle.state.proofs.words.put_spi_word.Goals as goal
 

@@ -1,5 +1,4 @@
 -- `state::words::put_stack_entry` meets its contract. Assumes nothing.
-use borrow.Author.Rules.{rules}
 use Rattle.state.proofs.words.put_stack_entry.Goals as goal
 
 pub returns : goal.returns

@@ -1,5 +1,4 @@
 -- `state::words::ready_bit` meets its contract. Assumes nothing.
-use borrow.Author.Rules.{rules}
 use Rattle.state.specs.Words.{ready_bit}
 use Rattle.state.proofs.words.ready_bit.Goals as goal
 

@@ -1,5 +1,4 @@
 -- `state::words::record` meets its contract. Assumes nothing.
-use borrow.Author.Rules.{rules}
 use Rattle.state.proofs.words.record.Goals as goal
 
 pub returns : goal.returns

@@ -1,5 +1,4 @@
 -- `state::words::sgi_sources` meets its contract. Assumes nothing.
-use borrow.Author.Rules.{rules}
 use Rattle.state.proofs.words.sgi_sources.Goals as goal
 
 pub returns : goal.returns

@@ -1,5 +1,4 @@
 -- `state::words::stack_entry` meets its contract. Assumes nothing.
-use borrow.Author.Rules.{rules}
 use Rattle.state.proofs.words.stack_entry.Goals as goal
 
 pub returns : goal.returns

@@ -1,5 +1,4 @@
 -- `InterruptRecord::complete` is `complete`: each way by what `held` said.
-use borrow.Author.Rules.{rules}
 use Rattle.interrupt.specs.Record.{complete, held}
 use Rattle.interrupt.proofs.record.InterruptRecord.complete.Goals as goal
 

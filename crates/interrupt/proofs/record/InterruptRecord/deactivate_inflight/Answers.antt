@@ -1,5 +1,4 @@
 -- `InterruptRecord::deactivate_inflight` is `deactivate_inflight`, by what `held` ensures.
-use borrow.Author.Rules.{rules}
 use Rattle.interrupt.specs.Record.{deactivate_inflight, held}
 use Rattle.interrupt.proofs.record.InterruptRecord.deactivate_inflight.Goals as goal
 

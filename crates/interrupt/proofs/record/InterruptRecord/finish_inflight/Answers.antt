@@ -1,5 +1,4 @@
 -- `InterruptRecord::finish_inflight` is `finish_inflight`: a deactivation of a delivery that was not pending.
-use borrow.Author.Rules.{rules}
 use Rattle.interrupt.specs.Record.{finish_inflight, deactivate_inflight}
 use Rattle.interrupt.proofs.record.InterruptRecord.finish_inflight.Goals as goal
 

@@ -1,5 +1,4 @@
 -- `InterruptRecord::held` is `held`, by what `is_level` ensures.
-use borrow.Author.Rules.{rules}
 use Rattle.interrupt.specs.Record.{held}
 use Rattle.interrupt.proofs.record.InterruptRecord.held.Goals as goal
 

@@ -1,6 +1,5 @@
 -- `InterruptRecord::leveled` is `set_level`: each of the four ways by its two tests.
 -- a line that is asserted: risen in service, or not; one that is not: an idle level interrupt, or not
-use borrow.Author.Rules.{rules}
 use mathlib.Core.Path.{◌≡◌}
 use mathlib.Core.Bool.{Bool, true, false, not, ◌&&◌, and-false}
 use Rattle.interrupt.specs.Types.{is_level}

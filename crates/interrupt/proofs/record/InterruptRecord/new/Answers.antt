@@ -1,5 +1,4 @@
 -- `InterruptRecord::new` is `new_record`, by what `is_sgi` ensures.
-use borrow.Author.Rules.{rules}
 use Rattle.interrupt.specs.Record.{new_record}
 use Rattle.interrupt.proofs.record.InterruptRecord.new.Goals as goal
 

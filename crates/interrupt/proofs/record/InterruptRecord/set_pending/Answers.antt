@@ -1,6 +1,5 @@
 -- `InterruptRecord::set_pending` is `set_pending`: each way by its test, and cleared by what `held` ensures.
 -- a bit is kept or cleared
-use borrow.Author.Rules.{rules}
 use mathlib.Core.Path.{◌≡◌, refl, ap}
 use mathlib.Core.Bool.{Bool, true, false, cond, ◌&&◌}
 use Rattle.interrupt.specs.declared.record.InterruptRecord.{InterruptRecord}

@@ -1,5 +1,4 @@
 -- `InterruptRecord::set_state` is `set_state`, by what `pending` and `active` ensure.
-use borrow.Author.Rules.{rules}
 use Rattle.interrupt.specs.Record.{set_state}
 use Rattle.interrupt.proofs.record.InterruptRecord.set_state.Goals as goal
 

@@ -1,5 +1,4 @@
 -- `InterruptRecord::starting` is `starting_record`, by what its two callees ensure.
-use borrow.Author.Rules.{rules}
 use Rattle.interrupt.specs.Record.{starting_record}
 use Rattle.interrupt.proofs.record.InterruptRecord.starting.Goals as goal
 

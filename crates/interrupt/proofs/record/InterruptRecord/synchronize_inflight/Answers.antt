@@ -1,7 +1,6 @@
 -- `InterruptRecord::synchronize_inflight` is `synchronize_inflight`: the record that `set_state` gives, with the note merged; the note is spent or kept, each way by its test.
-use borrow.Author.Rules.{rules}
 use mathlib.Core.Path.{◌≡◌}
-use mathlib.Core.Bool.{Bool, true, false}
+use mathlib.Core.Bool.{Bool, false}
 use Rattle.interrupt.specs.declared.record.InterruptRecord.{InterruptRecord}
 use Rattle.interrupt.specs.declared.types.InterruptState.{InterruptState}
 use Rattle.interrupt.specs.declared.record.Synchronized.{Synchronized}

@@ -1,5 +1,4 @@
 -- `TriggerMode::starting` is `starting_trigger`: each way by what `is_sgi` said.
-use borrow.Author.Rules.{rules}
 use Rattle.interrupt.specs.Types.{starting_trigger}
 use Rattle.interrupt.proofs.types.TriggerMode.starting.Goals as goal
 

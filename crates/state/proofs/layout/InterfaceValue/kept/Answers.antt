@@ -1,5 +1,4 @@
 -- `state::layout::InterfaceValue::kept` meets its contract. Assumes nothing.
-use borrow.Author.Rules.{rules}
 use Rattle.state.proofs.layout.InterfaceValue.kept.Goals as goal
 
 pub returns-in-Control : goal.returns-in-Control
