@@ -1,6 +1,6 @@
 -- Where an access to the Distributor falls: document 01, "Distributor places" and "Refusal numbers"; the registers are those of IHI 0048,
 -- section 4.3. What a place then reads or does, and the lookup of the vCPU, are not said here.
-use Rattle.std.specs.Prelude.{Bool, true, false, cond, not, ◌&&◌, ℕ, ◌-◌, ◌*◌, ◌%◌, eqb, ltb}
+use Rattle.std.specs.Prelude.{Bool, false, cond, not, ◌&&◌, ℕ, ◌-◌, ◌*◌, ◌%◌, eqb, ltb}
 use Rattle.register.specs.declared.frame.AccessWidth.{AccessWidth}
 use Rattle.register.specs.declared.frame.Refusal.TheVariants.{Access, Width, Vcpu}
 use Rattle.register.specs.declared.ranges.BitRegister.{BitRegister}

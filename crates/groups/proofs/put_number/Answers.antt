@@ -1,7 +1,6 @@
 -- `groups::put_number` meets its contract. Assumes nothing.
 use Rattle.groups.proofs.Numbers.{groups_short, groups_two, groups_one, groups_some}
 use Rattle.groups.proofs.Writing.{wrote_then, wrote_length}
-use borrow.Author.Rules.{rules}
 use native.Mathlib.Omega.{arith}
 use mathlib.Core.Path.{ap}
 use lib.ListN.{length}

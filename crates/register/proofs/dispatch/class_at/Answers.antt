@@ -9,7 +9,7 @@ use Rattle.register.proofs.dispatch.class_at.Goals as goal
 
 pub returns-then-offset-eq3840 : goal.returns-then-offset-eq3840
 unfolding range_at range_in ranges
-returns-then-offset-eq3840 c = simp c.if-offset-eq3840.taken
+returns-then-offset-eq3840 c = simp c.if-offset-eq3840.true
 
 pub returns-then-offset-lt4096 : goal.returns-then-offset-lt4096
 returns-then-offset-lt4096 c =

@@ -11,7 +11,6 @@ use Rattle.register.proofs.Map.{few_numbers}
 use Rattle.register.proofs.Private.{private_below}
 use Rattle.register.proofs.distributor.bit_place.Goals as goal
 
--- LOOK: .pre.class_is in returns
 small-first : {n : ℕ} (d : ℕ) (r : BitRegister) → n ≡ bit_numbers_per_byte r → d < 0x1000 → d * n < 2 ^ 15
 small-first {n} d r e h =
     let few : n ≤ 8 = subst⁻¹ (λ (k : ℕ). k ≤ 8) e (few_numbers r) in
@@ -26,4 +25,4 @@ overflow_mul-first c =
 
 pub returns : goal.returns
 unfolding place_at first_number
-returns c = simp (c.is_private.ensures, private_below c.args.offset, ← c.pre.class_is, c.distance.ensures, c.numbers_per_byte.ensures)
+returns c = simp (c.is_private.ensures, private_below c.args.offset, ← c.requires.class_is, c.distance.ensures, c.numbers_per_byte.ensures)

@@ -1,5 +1,4 @@
 -- `bit_word` is `bit_word`, test by test.
-use borrow.Author.Rules.{rules}
 use borrow.Author.Tests.{eq-eqb, ne_eqb}
 use Rattle.register.specs.Distributor.{bit_word}
 use Rattle.register.proofs.distributor.bit_word.Goals as goal

@@ -1,5 +1,4 @@
 -- `byte_array` is `byte_array`: each way by the width.
-use borrow.Author.Rules.{rules}
 use Rattle.register.specs.Distributor.{byte_array}
 use Rattle.register.proofs.distributor.byte_array.Goals as goal
 

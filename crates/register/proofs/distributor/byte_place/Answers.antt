@@ -1,6 +1,5 @@
 -- `byte_place` is `place_at` where a byte register is.
 use native.Mathlib.Nat.{mul-one}
-use borrow.Author.Rules.{rules}
 use Rattle.register.specs.Distributor.{place_at, first_number}
 use Rattle.register.proofs.Private.{private_below}
 use Rattle.register.proofs.distributor.byte_place.Goals as goal

@@ -1,15 +1,13 @@
 -- `locate_distributor` is `locate_distributor`: the frame's test, and what it tells the rest.
 use mathlib.Core.Path.{sym, ◌∙◌}
-use borrow.Author.Rules.{rules}
 use Rattle.register.specs.Distributor.{locate_distributor}
 use Rattle.register.proofs.Access.{in_frame_below}
 use Rattle.register.proofs.distributor.locate_distributor.Goals as goal
 
--- LOOK: .class_is.ensures in locate-in-frame-requires
 pub locate_in_frame-requires : goal.locate_in_frame-requires
 locate_in_frame-requires c =
     record {
-      class_is = c.class_is.ensures;
+      class_is = c.class_at.ensures;
       in_frame =
           in_frame_below 0x1000 c.args.offset c.args.width
           (sym c.validate_frame_access.ensures ∙ c.if-validate_frame_access.true);

@@ -1,5 +1,4 @@
 -- `single` is its definition, test by test.
-use borrow.Author.Rules.{rules}
 use borrow.Author.Tests.{eq-eqb, ne_eqb}
 use Rattle.register.specs.Distributor.{single}
 use Rattle.register.proofs.distributor.single.Goals as goal

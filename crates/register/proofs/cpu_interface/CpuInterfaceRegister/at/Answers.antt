@@ -63,7 +63,7 @@ pub returns-in_default : goal.returns-in_default
 unfolding register_at register_in registers
 returns-in_default c =
     let o = c.args.offset in
-    let r = c.in_default.rest in
+    let r = c.in_default.in_default-own.rest in
     simp (
       ne_eqb o 0x00 r.0.0.0.0.0.0.0.0.0.0.0.0.0.1,
       ne_eqb o 0x04 r.0.0.0.0.0.0.0.0.0.0.0.0.1,

@@ -1,5 +1,4 @@
 -- `AccessWidth::aligned` is `aligned`, width by width.
-use borrow.Author.Rules.{rules}
 use Rattle.register.proofs.frame.AccessWidth.aligned.Goals as goal
 
 pub returns-in-Byte : goal.returns-in-Byte

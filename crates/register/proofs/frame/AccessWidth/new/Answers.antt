@@ -22,6 +22,6 @@ returns-in-8 c = simp c.in-8.is
 pub returns-in_default : goal.returns-in_default
 unfolding decoded_width
 returns-in_default c =
-    let r = c.in_default.rest in
+    let r = c.in_default.in_default-own.rest in
     let n = c.args.bytes in
     simp (ne_eqb n 1 r.0.0.0.1, ne_eqb n 2 r.0.0.1, ne_eqb n 4 r.0.1, ne_eqb n 8 r.1)

@@ -69,4 +69,4 @@ returns-in-15 c = simp c.in-15.is
 
 pub returns-in_default : goal.returns-in_default
 unfolding class_of range_numbered ranges
-returns-in_default c = simp (numbered_past _ (none_below 16 _ c.in_default.rest))
+returns-in_default c = simp (numbered_past _ (none_below 16 _ c.in_default.in_default-own.rest))

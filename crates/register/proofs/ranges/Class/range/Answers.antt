@@ -2,7 +2,6 @@
 -- where a number n is both m and k, the row at k is the row at m
 use mathlib.Core.Path.{◌≡◌, sym, ap, ◌∙◌}
 use Prim.Native.Nat.{ℕ}
-use borrow.Author.Rules.{rules}
 use Rattle.register.specs.Ranges.{ranges, range_numbered, range_of}
 use Rattle.register.proofs.Map.{numbered_past, none_below}
 use Rattle.register.proofs.ranges.Class.range.Goals as goal
@@ -76,4 +75,4 @@ returns-in-15 c = same_row c.number.ensures 15 c.in-15.is
 
 pub returns-in_default : goal.returns-in_default
 unfolding range_of
-returns-in_default c = simp (← c.number.ensures, numbered_past _ (none_below 16 _ c.in_default.rest))
+returns-in_default c = simp (← c.number.ensures, numbered_past _ (none_below 16 _ c.in_default.in_default-own.rest))
