@@ -1,0 +1,20 @@
+-- `acknowledge::take_pending_delivery` meets its contract. Assumes nothing.
+use mathlib.Core.Path.{sym, ◌∙◌}
+use Rattle.acknowledge.specs.Acknowledge.{answered, taken}
+use borrow.Author.Rules.{rules}
+use Rattle.acknowledge.proofs.Offers.{offer_below}
+use Rattle.acknowledge.proofs.take_pending_delivery.Goals as goal
+
+pub accept-requires : goal.accept-requires
+accept-requires c =
+    (c.requires, offer_below c.args.shape c.args.vcpu.0 c.args.words.now _ (sym c.offer.ensures ∙ c.in-Best.is))
+
+pub returns-in-Best : goal.returns-in-Best
+returns-in-Best c =
+    let same = sym c.in-Best.is ∙ c.offer.ensures in
+    (c.accept.ensures.0 ∙ simp same, c.accept.ensures.1 ∙ simp same)
+
+pub returns-in-Nothing : goal.returns-in-Nothing
+unfolding answered taken
+returns-in-Nothing c =
+    (simp (← c.offer.ensures, c.in-Nothing.is), simp (← c.offer.ensures, c.in-Nothing.is))

@@ -1,0 +1,24 @@
+-- `bits::acts` meets its contract. Assumes nothing.
+use borrow.Author.Rules.{rules}
+use Rattle.bits.proofs.acts.Goals as goal
+
+pub returns-in-Isenabler : goal.returns-in-Isenabler
+returns-in-Isenabler c = simp c.in-Isenabler.is
+
+pub returns-in-Icenabler : goal.returns-in-Icenabler
+returns-in-Icenabler c = simp c.in-Icenabler.is
+
+pub returns-in-Ispendr : goal.returns-in-Ispendr
+returns-in-Ispendr c = simp (c.is_sgi-free.ensures, c.in-Ispendr.is)
+
+pub returns-in-Icpendr : goal.returns-in-Icpendr
+returns-in-Icpendr c = simp (c.is_sgi-free.ensures, c.in-Icpendr.is)
+
+pub returns-in-Isactiver : goal.returns-in-Isactiver
+returns-in-Isactiver c = simp c.in-Isactiver.is
+
+pub returns-in-Icactiver : goal.returns-in-Icactiver
+returns-in-Icactiver c = simp c.in-Icactiver.is
+
+pub returns-in-Icfgr : goal.returns-in-Icfgr
+returns-in-Icfgr c = simp (c.is_sgi-free.ensures, c.in-Icfgr.is)
