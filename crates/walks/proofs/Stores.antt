@@ -2,14 +2,14 @@
 --     stores k         the MIR of such a function
 --     storing, Stored f    its signature, and its contract: the result is f of the struct and of what is passed
 --     walk             where z is the struct with x at k, the function returns z
---     stores-meets     where f puts what is passed at k, and nothing else, the function's MIR meets its contract, c, which is Stored f
+--     stores_meets     where f puts what is passed at k, and nothing else, the function's MIR meets its contract, c, which is Stored f
 -- Of both types it asks that they are seen at exit as they were passed, as plain data is: `refl` shows it. Assumes `Logic`.
 use mathlib.Core.Path.{◌≡◌, refl, sym, ◌∙◌, ap, subst}
 use Prim.Native.Nat.{ℕ}
 use mathlib.Core.Option.{some}
 use mathlib.Core.List.{[], ◌∷◌, List}
 use seplogic.Ra.Ura.{Ura}
-use seplogic.Ra.TreeShare.{full_share}
+use base.Fraction.{full_share}
 use lib.Dec.{T as Holds}
 use mir.Syntax.{Ty, Fn, field, place, copy, rv_opd, seq, assign, return, local, value_local}
 use mir.Val.{Val, vstruct, WT, has_ty}
@@ -65,6 +65,8 @@ module _ (N : Record) (gp : Propositions N) (k : ℕ) where
   stores = record {
     lifetimes = 0;
     outlives = [];
+    ty_params = [];
+    givens = 0;
     params = 2;
     locals = local (τ T) value_local ∷ local (τ T) value_local ∷ local t value_local ∷ [];
     body = seq (assign (place 1 (field k ∷ [])) (rv_opd (copy (place 2 []))))
@@ -94,15 +96,15 @@ module _ (N : Record) (gp : Propositions N) (k : ℕ) where
       same_val : vstruct (set_v (spelled N.parts L (N.as_values h)) k (arg x)) ≡ val z
       same_val = ap vstruct (val_put N.parts L k x (N.as_values h) ∙ ap (spelled N.parts L) (sym puts))
 
-      owned : ent 𝓤 (sep 𝓤 (sem 𝓛 (S.own h (val h ∷ []))) (sem 𝓛 (field_own N.parts L k x))) (sem 𝓛 (S.own z (val z ∷ [])))
-      owned = subst (λ (v : Values N.parts). ent 𝓤 (sep 𝓤 (sem 𝓛 (S.own h (val h ∷ []))) (sem 𝓛 (field_own N.parts L k x))) (sem 𝓛 ((Struct (shape T)).own_val (intos N.parts v) (vstruct (spelled N.parts L v) ∷ [])))) (sym puts)
+      owned : ent 𝓤 (sep 𝓤 (sem 𝓛 (S.own_val h (val h ∷ []))) (sem 𝓛 (field_own N.parts L k x))) (sem 𝓛 (S.own_val z (val z ∷ [])))
+      owned = subst (λ (v : Values N.parts). ent 𝓤 (sep 𝓤 (sem 𝓛 (S.own_val h (val h ∷ []))) (sem 𝓛 (field_own N.parts L k x))) (sem 𝓛 ((Struct (shape T)).own_val (intos N.parts v) (vstruct (spelled N.parts L v) ∷ [])))) (sym puts)
           (own_put 𝓛 T L k (N.as_values h) x (val h))
 
-      walk : Is S h (val h ∷ []) → Is X x (arg x ∷ []) → (Post : Val → SProp 𝓤) (C : Calls 𝓤 H) (Λ : Loops 𝓤 H) → ent 𝓤 (sem 𝓛 (S.own z (val z ∷ []))) (Post (val z))
-          → ent 𝓤 (sep 𝓤 (sem 𝓛 (S.own h (val h ∷ []))) (sem 𝓛 (field_own N.parts L k x))) (WpFn 𝓤 H C Λ stores (val h ∷ arg x ∷ []) Post)
+      walk : Is S h (val h ∷ []) → Is X x (arg x ∷ []) → (Post : Val → SProp 𝓤) (C : Calls 𝓤 H) (Λ : Loops 𝓤 H) → ent 𝓤 (sem 𝓛 (S.own_val z (val z ∷ []))) (Post (val z))
+          → ent 𝓤 (sep 𝓤 (sem 𝓛 (S.own_val h (val h ∷ []))) (sem 𝓛 (field_own N.parts L k x))) (WpFn 𝓤 H C Λ stores (val h ∷ arg x ∷ []) Post)
       walk was is Post C Λ exits =
           let fits : Holds (has_ty t (arg x)) × WT (arg x) = (subst (λ (τs : List Ty). Typed τs (arg x ∷ [])) one (((law_at N.parts L k).lawful 𝓛).typed (F.into x) (arg x ∷ []) is)).0 in
-          qed 𝓛 (‵ (S.own h (val h ∷ [])) ∷ ‵ (field_own N.parts L k x) ∷ []) ∵ use2 𝓛 (‵ (S.own z (val z ∷ []))) owned $ peeks ! S (Is S) (shows 𝓛 S) z (val z ∷ []) (λ will.
+          qed 𝓛 (‵ (S.own_val h (val h ∷ [])) ∷ ‵ (field_own N.parts L k x) ∷ []) ∵ use2 𝓛 (‵ (S.own_val z (val z ∷ []))) owned $ peeks ! S (Is S) (shows 𝓛 S) z (val z ∷ []) (λ will.
           enter ! C Λ stores (val h ∷ arg x ∷ []) _ $ alloc1 ! (λ l₀. alloc1 ! (λ l₁. alloc1 ! (λ l₂. alloc0 ! $
           params1 ! $ pass1 ! (init ! 2 refl (typed T L 𝓛 h (val h) was)) $ pass1 ! (init ! 0 refl fits) $ pass0 ! $
           -- [what is stored; …; the struct; …; room for the result; …; what z owns]
@@ -120,12 +122,12 @@ module _ (N : Record) (gp : Propositions N) (k : ℕ) where
         abbrev Post : Val → SProp 𝓤
         Post = (walk_of 𝓛 storing stayed (Stored 𝓤 f)).post ((κs, tt, tt, (h, (x, tt)), (val h ∷ [], (arg x ∷ [], tt))), tt)
 
-        enters : ent 𝓤 (on_entry 𝓛 storing.signature κs tt (h, (x, tt)) (val h ∷ [], (arg x ∷ [], tt))) (sep 𝓤 (sem 𝓛 (S.own h (val h ∷ []))) (sem 𝓛 (field_own N.parts L k x)))
+        enters : ent 𝓤 (on_entry 𝓛 storing.signature κs tt (h, (x, tt)) (val h ∷ [], (arg x ∷ [], tt))) (sep 𝓤 (sem 𝓛 (S.own_val h (val h ∷ []))) (sem 𝓛 (field_own N.parts L k x)))
         enters = qed 𝓛 (‵ ftrue ∷ ‵ (owns (S ∷ X ∷ []) (h, (x, tt)) (val h ∷ [], (arg x ∷ [], tt))) ∷ []) ∵ move ! (1 ∷ []) $ fsplit ! $ move ! (1 ∷ []) $ fsplit ! $ move ! (2 ∷ 0 ∷ []) $ keep ! (0 ∷ 1 ∷ []) $ done !
 
-        leaves : (v : Val) → ent 𝓤 (sem 𝓛 (S.own (f h x) (v ∷ []))) (Post v)
+        leaves : (v : Val) → ent 𝓤 (sem 𝓛 (S.own_val (f h x) (v ∷ []))) (Post v)
         leaves v =
-            qed 𝓛 (‵ (S.own (f h x) (v ∷ [])) ∷ []) ∵
+            qed 𝓛 (‵ (S.own_val (f h x) (v ∷ [])) ∷ []) ∵
             suffices ! _ (ends_at 𝓛 storing stayed (Stored 𝓤 f) ((κs, tt, tt, (h, (x, tt)), (val h ∷ [], (arg x ∷ [], tt))), tt) v (f h x) (same_bound (S.exit yes) same h, (same_bound (X.exit yes) same' x, tt)) (tt, (tt, tt))) $ says ! refl $
             nothing ! $ nothing ! $ fjoin ! $ nothing ! $ fjoin ! $ nothing ! $ done !
 
