@@ -5,6 +5,7 @@ pub mod Forms
 pub mod Parameters
 pub mod Thin
 pub mod Lends
+pub mod Storing
 pub mod Stores
 pub mod Cursor
 pub mod Apart

@@ -1,6 +1,4 @@
--- A function that stores what it is passed in a field of its struct, and returns the struct: `fn f(mut s: S, x: X) -> S { s.k = x; s }`, where X is a declared type, as an enum. One walk, for any struct and any such field of it.
---     stores k         the MIR of such a function
---     storing, Stored f    its signature, and its contract: the result is f of the struct and of what is passed
+-- The walk of a function that stores what it is passed in a field of its struct (`Storing`). One walk, for any struct and any such field of it.
 --     walk             where z is the struct with x at k, the function returns z
 --     stores_meets     where f puts what is passed at k, and nothing else, the function's MIR meets its contract, c, which is Stored f
 -- Of both types it asks that they are seen at exit as they were passed, as plain data is: `refl` shows it. Assumes `Logic`.
@@ -45,39 +43,30 @@ use denote.Triple.Entry.{on_entry}
 use denote.Triple.Spec.{Meets}
 use denote.Triple.Walked.{says, Stays, stay_dropped, walk_of, Goes-dropped, ends_at, walked, walk_Meets}
 use Rattle.walks.proofs.Forms.{τ, typed}
+use Rattle.walks.proofs.Storing as Of
 use Rattle.walks.proofs.Lends.{same_bound, same_said}
 
 module _ (N : Record) (gp : Propositions N) (k : ℕ) where
   abbrev T : Declared
-  T = declared N gp
+  T = Of.T N gp k
 
   abbrev F : Field
-  F = FieldAt N.parts k
+  F = Of.F N gp k
 
-  -- the field's type as a parameter's, and its MIR type
   abbrev X : RattleType
-  X = Recorded F.row F.Value F.into F.into_one
+  X = Of.X N gp k
 
   abbrev t : Ty
-  t = lone F.row.mir
+  t = Of.t N gp k
 
-  abbrev pub stores : Fn
-  stores = record {
-    lifetimes = 0;
-    outlives = [];
-    ty_params = [];
-    givens = 0;
-    params = 2;
-    locals = local (τ T) value_local ∷ local (τ T) value_local ∷ local t value_local ∷ [];
-    body = seq (assign (place 1 (field k ∷ [])) (rv_opd (copy (place 2 []))))
-        (seq (assign (place 0 []) (rv_opd (copy (place 1 [])))) return);
-  }
+  abbrev stores : Fn
+  stores = Of.stores N gp k
 
-  abbrev pub storing : Ended
-  storing = record { signature = record { lifetimes = 0; outlives = []; params = plain (λ _. row T) ∷ plain (λ _. X) ∷ []; result = plain (λ _. row T) }; kept = (yes, (yes, tt)) }
+  abbrev storing : Ended
+  storing = Of.storing N gp k
 
-  abbrev pub Stored : {M : Type 1} (𝓤 : Ura M) → (N.D → F.Value → N.D) → Clauses 𝓤 storing
-  Stored 𝓤 f κs a = record { ghost = Unit {0}; requires = λ _. emp 𝓤; ensures = λ _ r _. fact 𝓤 (r ≡ f a.0 a.1.0) }
+  abbrev Stored : {M : Type 1} (𝓤 : Ura M) → (N.D → F.Value → N.D) → Clauses 𝓤 storing
+  Stored = Of.Stored N gp k
 
   module _ (L : LL.Laws T) (one : F.row.mir ≡ t ∷ []) {d : ℕ} (at : field_of (τ T) k ≡ some (t, d)) {M : Type 1} {𝓤 : Ura M} (𝓛 : Logic 𝓤) where
     open 𝓛 use {H}
