@@ -9,7 +9,7 @@ use mathlib.Core.List.{[], ◌∷◌, List}
 use seplogic.Ra.Ura.{Ura}
 use base.Fraction.{full_share}
 use lib.Dec.{T as Holds}
-use mir.Syntax.{Ty, Fn, field, place, copy, rv_opd, seq, assign, return, local, value_local}
+use mir.Syntax.{Ty, Fn}
 use mir.Val.{Val, vstruct, WT, has_ty}
 use mir.Fields.{set_v}
 use base.Logic.{SProp, ent, sep, emp, via, fst∗}
@@ -18,22 +18,19 @@ use prog.Memory.{field_of}
 use prog.Wp.{Calls, Loops, WpFn, Tables}
 use types.Logic.{Logic, sem}
 use contract.Lifetimes.{Lfts}
-use contract.Monad.{fact}
 use types.Kit.{‵, ◌$◌, ◌∵◌, !, qed, by, move, keep, use2, rewrite, fsplit, fjoin, suffices, done}
 use types.Part.{whole, sub, store_in}
 use types.Run.{look, init, forget, stop, fld, from, load, of_opd, assigns, returns, enter, alloc1, alloc0, params1, pass1, pass0, free1, free0}
 use sound.WpLaws.{WpFn-mono}
 use denote.RattleType.{RattleType, owns}
 use denote.Laws.{Is, Typed, shows}
-use denote.Memory.{lone}
 use denote.Signature.{plain}
 use denote.Steps.{peeks, nothing}
-use denote.Struct.At.{FieldAt, put_at, law_at, val_at, spelled, val_put}
+use denote.Struct.At.{put_at, law_at, val_at, spelled, val_put}
 use denote.Struct.Declared.{Declared, row, shape}
 use denote.Struct.Field.{Field}
 use denote.Struct.Laws as LL
-use denote.Struct.Record.{Record, Propositions, declared}
-use denote.Struct.Recorded.{Recorded}
+use denote.Struct.Record.{Record, Propositions}
 use denote.Struct.Rest.{field_own, own_put}
 use denote.Struct.Struct.{Struct}
 use denote.Struct.Values.{Values, intos}
