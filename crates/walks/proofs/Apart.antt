@@ -1,14 +1,14 @@
 -- A function over a reader whose body is one call of a function on the slice and the place: `fn f<'a>(r: Reader<'a>, a, ..) -> R { g(r.image, r.at, a, ..) }`. One walk, for any struct of a slice and a place, any scalars after it, any result and any g.
 --     apart ts R g      the MIR of such a function, where the parameters after the reader have the MIR types ts, and the callee's key is g
 --     walk              where g gives z of the slice and the place, the function gives it of the reader
---     apart-meets       where the callee meets its contract (`Cursor`: Bare), the function's MIR meets its own, c, which is Carried
+--     apart_meets       where the callee meets its contract (`Cursor`: Bare), the function's MIR meets its own, c, which is Carried
 -- Assumes `Logic`.
 use mathlib.Core.Path.{◌≡◌, refl, sym, ◌∙◌, ap, subst}
 use Prim.Native.Nat.{ℕ, suc, ◌<◌, ◌^◌}
 use mathlib.Core.List.{List, [], ◌∷◌}
 use lib.Dec.{T as Holds}
 use seplogic.Ra.Ura.{Ura}
-use mir.Syntax.{Name, Ty, Fn, named, erased, w64, ty_int, field, place, copy, rv_opd, seq, assign, call, return, local, value_local}
+use mir.Syntax.{Callee as Key, Ty, Fn, named, erased, w64, ty_int, field, place, copy, rv_opd, seq, assign, call, return, local, value_local}
 use mir.Val.{Val, vint, WT, has_ty}
 use base.Logic.{SProp, ent, sep, emp, snd∗, ex_e, id⊢}
 use base.Fml.{Share, Fml, ftrue, flft}
@@ -39,7 +39,7 @@ use denote.Triple.Clauses.{Clauses, closing, ensured, lasts}
 use denote.Triple.Entry.{on_entry}
 use denote.Triple.Spec.{Meets, triple_of}
 use denote.Triple.Walked.{says, Stays, stay_none, has_of, walk_of, Goes-none, ends_at, walked, walk_Meets}
-use Rattle.walks.proofs.Cursor.{Cursor, Result, slice, τ-slice, mir_at, lowered, the_type, the_laws, the_copy, row_at, bare, carried, Bare, Carried}
+use Rattle.walks.proofs.Cursor.{Cursor, Result, slice, τ_slice, mir_at, lowered, the_type, the_laws, the_copy, row_at, bare, carried, Bare, Carried}
 use Rattle.walks.proofs.Scalar.{Scalar}
 use Rattle.walks.proofs.Scalars.{Xs, mirs, machine, Fitting, all_typed, slots, dropped, told, args, told_args, spelled, valued, tell, flat_told, fitting, none_bound, none_asked, none_had, made, all_go}
 use Rattle.walks.proofs.Parameters.{values, copies, after, past, alloc_all, pass_all, free_all, at_place, operands}
@@ -51,12 +51,14 @@ module _ (S : Cursor) (ts : List Ty) (R : Result) where
   abbrev at : ℕ
   at = suc (suc (after ts 1))
 
-  abbrev pub apart : Name → Fn
+  abbrev pub apart : Key → Fn
   apart g = record {
     lifetimes = 1;
     outlives = [];
+    ty_params = [];
+    givens = 0;
     params = suc (after ts 0);
-    locals = local R.mir value_local ∷ local (mir_at S (named 0)) value_local ∷ values ts (local (τ-slice erased) value_local ∷ local (ty_int w64) value_local ∷ []);
+    locals = local R.mir value_local ∷ local (mir_at S (named 0)) value_local ∷ values ts (local (τ_slice erased) value_local ∷ local (ty_int w64) value_local ∷ []);
     body = seq (assign (place image []) (rv_opd (copy (place 1 (field 0 ∷ [])))))
         (seq (assign (place at []) (rv_opd (copy (place 1 (field 1 ∷ [])))))
         (seq (call g (copy (place image []) ∷ copy (place at []) ∷ copies (λ i. suc (suc i)) ts) (place 0 [])) return));
@@ -67,13 +69,13 @@ module _ (S : Cursor) (ts : List Ty) (R : Result) where
       (Entry P Keep Rest : SProp 𝓤) (Post : Val → SProp 𝓤) where
     open 𝓛 use {H}
 
-    walk : (C : Calls 𝓤 H) (Λ : Loops 𝓤 H) → FmC 𝓤 H 𝓛.laws C → (g : Name) (Q : Val → SProp 𝓤) → ent 𝓤 Entry (sep 𝓤 P Keep) → ent 𝓤 P (C g (slice (S.image d) ∷ vint w64 (S.at d) ∷ vs) Q)
+    walk : (C : Calls 𝓤 H) (Λ : Loops 𝓤 H) → FmC 𝓤 H 𝓛.laws C → (g : Key) (Q : Val → SProp 𝓤) → ent 𝓤 Entry (sep 𝓤 P Keep) → ent 𝓤 P (C g (slice (S.image d) ∷ vint w64 (S.at d) ∷ vs) Q)
         → ((u : Val) → ent 𝓤 (Q u) (H.⇛ (sep 𝓤 (sem 𝓛 (R.row.own_val z (u ∷ []))) Rest))) → ((u : Val) → ent 𝓤 (sep 𝓤 (sem 𝓛 (R.row.own_val z (u ∷ []))) (sep 𝓤 Rest Keep)) (Post u))
         → ent 𝓤 Entry (WpFn 𝓤 H C Λ (apart g) (lowered S d ∷ vs) Post)
     walk C Λ fm g Q splits met said hands_back =
         qed 𝓛 (raw Entry ∷ []) ∵ enter ! C Λ (apart g) (lowered S d ∷ vs) _ $
         alloc1 ! (λ l₀. alloc1 ! (λ l₁. alloc_all ! ts _ (λ bs. alloc1 ! (λ l₂. alloc1 ! (λ l₃. alloc0 ! $
-        let E : List (Ty × ℕ) = (τ-slice erased, l₂) ∷ (ty_int w64, l₃) ∷ [] in
+        let E : List (Ty × ℕ) = (τ_slice erased, l₂) ∷ (ty_int w64, l₃) ∷ [] in
         params1 ! $ pass1 ! (init ! 5 refl wt) $ move ! (4 ∷ []) $ pass_all ! ts bs vs ok E $
         -- [the parameters; room for at; …; for image; …; the reader; …; room for the result; …; what is had at entry]
         assigns ! (of_opd ! (load ! (from ! (fld ! refl (stop !))) (look_in ! 5 (sub ! 0 refl (whole !))))) (at_place ! (past ts bs E (no_local 𝓤 H) 0)) (init ! 3 refl (tt, wt.1.0)) $
@@ -117,7 +119,7 @@ module _ (S : Cursor) (ps : List Scalar) (R : Result) {M : Type 1} {𝓤 : Ura M
     mach = lowered S d
 
     abbrev Own : Fml
-    Own = (row_at S κs).own d (mach ∷ [])
+    Own = (row_at S κs).own_val d (mach ∷ [])
 
     -- what the callee is passed: the scalars' values made anew, as values of its own signature
     abbrev a' : Denots (types_at (slots 1 ps) κs)
@@ -166,7 +168,7 @@ module _ (S : Cursor) (ps : List Scalar) (R : Result) {M : Type 1} {𝓤 : Ura M
         use0 𝓛 (‵ (has_of κs (slots 1 ps) (all yes (slots 1 ps)) (dropped 1 ps) a (none_bound 1 κs ps a) (valued 1 κs ps a))) (none_had 1 κs 𝓛 ps a (none_bound 1 κs ps a) (valued 1 κs ps a)) $
         move ! (2 ∷ 0 ∷ []) $ fjoin ! $ frame ! $ done !
 
-  pub apart_meets : (c : Clauses 𝓤 (carried ps R S)) → Carried ps R 𝓤 Asks f S ≡ c → (𝓣 : Tables 𝓤 H) (g : Name) → Triple 𝓤 (𝓣.C g) Callee → Meets 𝓛 (carried ps R S).signature (WpFn 𝓤 H 𝓣.C 𝓣.Λ (apart S (mirs ps) R g)) (closing 𝓛 (carried ps R S) c)
+  pub apart_meets : (c : Clauses 𝓤 (carried ps R S)) → Carried ps R 𝓤 Asks f S ≡ c → (𝓣 : Tables 𝓤 H) (g : Key) → Triple 𝓤 (𝓣.C g) Callee → Meets 𝓛 (carried ps R S).signature (WpFn 𝓤 H 𝓣.C 𝓣.Λ (apart S (mirs ps) R g)) (closing 𝓛 (carried ps R S) c)
   apart_meets c is 𝓣 g known =
       subst (λ (e : Clauses 𝓤 (carried ps R S)). Meets 𝓛 (carried ps R S).signature (WpFn 𝓤 H 𝓣.C 𝓣.Λ (apart S (mirs ps) R g)) (closing 𝓛 (carried ps R S) e)) is
       (walk_Meets 𝓛 (carried ps R S) stayed (Goes-none 𝓛 1 (row_at S) yes (λ κs x f. refl), all_go 𝓛 1 ps) (Carried ps R 𝓤 Asks f S) (WpFn 𝓤 H 𝓣.C 𝓣.Λ (apart S (mirs ps) R g)) (WpFn-mono 𝓤 H 𝓛.laws 𝓣 (apart S (mirs ps) R g))

@@ -17,6 +17,7 @@ use contract.Monad.{fact}
 use denote.RattleType.{RattleType}
 use denote.Laws.{Is}
 use denote.Builtin.{u8, usize, SliceRefOf}
+use denote.Plain.{uint_row_laws}
 use denote.Ref.{Bor, NamedLft}
 use denote.Signature.{plain, named_lft}
 use denote.Slice.{slice_val, slice_ty}
@@ -49,12 +50,12 @@ pub record Result : Type 2 where
 abbrev pub slice : Bor (List ℕ) → Val
 slice x = slice_val x.ref_ptr (length x.now)
 
-abbrev pub τ-slice : Lifetime → Ty
-τ-slice ℓ = slice_ty (ty_ref ℓ imm (ty_int w8))
+abbrev pub τ_slice : Lifetime → Ty
+τ_slice ℓ = slice_ty (ty_ref ℓ imm (ty_int w8))
 
 module _ (S : Cursor) where
   abbrev pub mir_at : Lifetime → Ty
-  mir_at ℓ = ty_struct S.name (tcons (τ-slice ℓ) (tcons (ty_int w64) tnil))
+  mir_at ℓ = ty_struct S.name (tcons (τ_slice ℓ) (tcons (ty_int w64) tnil))
 
   abbrev pub lowered : S.D → Val
   lowered d = vstruct (vcons (slice (S.image d)) (vcons (vint w64 (S.at d)) vnil))
@@ -64,6 +65,7 @@ module _ (S : Cursor) where
     struct = record {
       name = S.name;
       args = a.mir ∷ [];
+      types = [];
       parts = shr_slice_field a u8 tt ∷ usize-field ∷ [];
       D = S.D;
       as_values = λ d. (S.image d, (S.at d, tt));
@@ -81,7 +83,7 @@ module _ (S : Cursor) where
     the_laws = (LL.shr_slice_laws a u8 tt, (LL.usize-laws, tt))
 
     abbrev pub the_copy : LL.Copyables the_type.parts
-    the_copy = (LL.shr_slice_copy a u8 tt, (LL.usize-copy, tt))
+    the_copy = (LL.shr_slice_copy a u8 tt (uint_row_laws w8), (LL.usize-copy, tt))
 
   -- the struct's type, over a signature's one lifetime
   abbrev pub row_at : Lfts 1 → RattleType

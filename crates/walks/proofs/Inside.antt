@@ -1,13 +1,13 @@
 -- The other way round: a function on a slice and a place whose body passes on the reader over them, `fn f(image: &[u8], at: usize, a, ..) -> R { g(Reader { image, at }, a, ..) }`. Whoever calls such a function needs no walk.
 --     inside ts R g     the MIR of such a function, where the parameters after the place have the MIR types ts, and the callee's key is g
 --     walk              where g gives z of the reader, the function gives it of the slice and the place
---     inside-meets      where the callee meets its contract (`Cursor`: Carried), the function's MIR meets its own, c, which is Bare
+--     inside_meets      where the callee meets its contract (`Cursor`: Carried), the function's MIR meets its own, c, which is Bare
 -- Assumes `Logic`.
 use mathlib.Core.Path.{◌≡◌, refl, sym, ◌∙◌, ap, subst}
 use Prim.Native.Nat.{ℕ, suc, ◌<◌, ◌^◌}
 use mathlib.Core.List.{List, [], ◌∷◌}
 use seplogic.Ra.Ura.{Ura}
-use mir.Syntax.{Name, Ty, Fn, named, erased, w64, ty_int, place, copy, aggregate, seq, assign, call, return, local, value_local}
+use mir.Syntax.{Callee as Key, Ty, Fn, named, erased, w8, w64, ty_int, place, copy, aggregate, seq, assign, call, return, local, value_local}
 use mir.Val.{Val, vint}
 use base.Logic.{SProp, ent, sep, emp, snd∗, ex_e, id⊢}
 use base.Fml.{Lft, Share, Fml, ftrue, flft}
@@ -21,7 +21,7 @@ use types.Run.{look, init, forget, stop, from, load, and_then, no_more, assigns,
 use sound.WpLaws.{FmC, fm_of, WpFn-mono}
 use denote.RattleType.{Denots, flat, owns}
 use denote.Laws.{Is, Typed, shows}
-use denote.Plain.{uint_vals, uint_Tells, uint_Makes}
+use denote.Plain.{uint_row_laws, uint_vals, uint_Tells, uint_Makes}
 use denote.Builtin.{u8, usize}
 use denote.Ref.{Bor}
 use denote.Signature.{plain, named_lft, types_at}
@@ -37,7 +37,7 @@ use denote.Triple.Clauses.{Clauses, closing, ensured, lasts}
 use denote.Triple.Entry.{on_entry}
 use denote.Triple.Spec.{Meets, triple_of}
 use denote.Triple.Walked.{says, Stays, stay_none_slice, stay_dropped, has_of, walk_of, Goes-none_slice, Goes-dropped, ends_at, walked, walk_Meets}
-use Rattle.walks.proofs.Cursor.{Cursor, Result, slice, τ-slice, mir_at, lowered, the_type, the_laws, row_at, bare, carried, Bare, Carried}
+use Rattle.walks.proofs.Cursor.{Cursor, Result, slice, τ_slice, mir_at, lowered, the_type, the_laws, row_at, bare, carried, Bare, Carried}
 use Rattle.walks.proofs.Scalar.{Scalar}
 use Rattle.walks.proofs.Scalars.{Xs, mirs, machine, Fitting, all_typed, slots, dropped, told, args, told_args, spelled, valued, tell, flat_told, fitting, none_bound, none_asked, none_had, made, all_go}
 use Rattle.walks.proofs.Parameters.{values, copies, after, past, alloc_all, pass_all, free_all, at_place, operands}
@@ -46,12 +46,14 @@ module _ (S : Cursor) (ts : List Ty) (R : Result) where
   abbrev reader : ℕ
   reader = suc (suc (suc (after ts 0)))
 
-  abbrev pub inside : Name → Fn
+  abbrev pub inside : Key → Fn
   inside g = record {
     lifetimes = 1;
     outlives = [];
+    ty_params = [];
+    givens = 0;
     params = suc (suc (after ts 0));
-    locals = local R.mir value_local ∷ local (τ-slice (named 0)) value_local ∷ local (ty_int w64) value_local ∷ values ts (local (mir_at S erased) value_local ∷ []);
+    locals = local R.mir value_local ∷ local (τ_slice (named 0)) value_local ∷ local (ty_int w64) value_local ∷ values ts (local (mir_at S erased) value_local ∷ []);
     body = seq (assign (place reader []) (aggregate (copy (place 1 []) ∷ copy (place 2 []) ∷ [])))
         (seq (call g (copy (place reader []) ∷ copies (λ i. suc (suc (suc i))) ts) (place 0 [])) return);
   }
@@ -61,7 +63,7 @@ module _ (S : Cursor) (ts : List Ty) (R : Result) where
       (Entry P Keep Rest : SProp 𝓤) (Post : Val → SProp 𝓤) where
     open 𝓛 use {H}
 
-    walk : (C : Calls 𝓤 H) (Λ : Loops 𝓤 H) → FmC 𝓤 H 𝓛.laws C → (g : Name) (Q : Val → SProp 𝓤) → ent 𝓤 Entry (sep 𝓤 P Keep) → ent 𝓤 P (C g (lowered S d ∷ vs) Q)
+    walk : (C : Calls 𝓤 H) (Λ : Loops 𝓤 H) → FmC 𝓤 H 𝓛.laws C → (g : Key) (Q : Val → SProp 𝓤) → ent 𝓤 Entry (sep 𝓤 P Keep) → ent 𝓤 P (C g (lowered S d ∷ vs) Q)
         → ((u : Val) → ent 𝓤 (Q u) (H.⇛ (sep 𝓤 (sem 𝓛 (R.row.own_val z (u ∷ []))) Rest))) → ((u : Val) → ent 𝓤 (sep 𝓤 (sem 𝓛 (R.row.own_val z (u ∷ []))) (sep 𝓤 Rest Keep)) (Post u))
         → ent 𝓤 Entry (WpFn 𝓤 H C Λ (inside g) (slice (S.image d) ∷ vint w64 (S.at d) ∷ vs) Post)
     walk C Λ fm g Q splits met said hands_back =
@@ -132,10 +134,10 @@ module _ (S : Cursor) (ps : List Scalar) (R : Result) {M : Type 1} {𝓤 : Ura M
     splits : S.at d < 2 ^ 64 → Fitting ps x → ent 𝓤 Entry (sep 𝓤 (Callee.pre to) (sem 𝓛 Own))
     splits fits scalars =
         qed 𝓛 (((‵ (flft κs.0 q) ⊛ ‵ ftrue) ⊛ ‵ (owns (ShrSlice (named 0) κs.0 u8 ∷ usize ∷ types_at (slots 1 ps) κs) (S.image d, (S.at d, a)) (slice (S.image d) ∷ [], (vint w64 (S.at d) ∷ [], valued 1 κs ps a)))) ∷ raw (Asks (S.image d).now (S.at d) x) ∷ []) ∵
-        split ! $ move ! (1 ∷ []) $ fsplit ! $ move ! (1 ∷ []) $ drop ! $ use1 𝓛 (‵ Own ⊛ ‵ Own) ((shr_slice_copy 𝓛 (named 0) κs.0 u8).twice (S.image d) (slice (S.image d) ∷ [])) $ split ! $
+        split ! $ move ! (1 ∷ []) $ fsplit ! $ move ! (1 ∷ []) $ drop ! $ use1 𝓛 (‵ Own ⊛ ‵ Own) ((shr_slice_copy 𝓛 (named 0) κs.0 u8 (uint_row_laws w8)).twice (S.image d) (slice (S.image d) ∷ [])) $ split ! $
         -- [what image owns, twice; the token]
         nothing ! $ owned ! usize (Is usize) (uint_Makes 𝓛 w64) (S.at d) _ (refl, fits) $ fjoin ! $ move ! (1 ∷ 0 ∷ []) $ fjoin ! $
-        use1 𝓛 (‵ ((row_at S κs).own d (mach ∷ []))) (own_shut 𝓛 D (the_laws S (named_lft 1 0 tt κs)) (S.image d, (S.at d, tt))) $
+        use1 𝓛 (‵ ((row_at S κs).own_val d (mach ∷ []))) (own_shut 𝓛 D (the_laws S (named_lft 1 0 tt κs)) (S.image d, (S.at d, tt))) $
         use0 𝓛 (‵ (owns (types_at (slots 1 ps) κs) a' (valued 1 κs ps a'))) (made 1 κs 𝓛 ps x scalars) $ move ! (1 ∷ 0 ∷ []) $ fjoin ! $
         move ! (2 ∷ 0 ∷ 3 ∷ []) $ use3 𝓛 (raw (Callee.pre to)) asked $ frame ! $ done !
 
@@ -154,7 +156,7 @@ module _ (S : Cursor) (ps : List Scalar) (R : Result) {M : Type 1} {𝓤 : Ura M
         use0 𝓛 (‵ (has_of κs (slots 1 ps) (all yes (slots 1 ps)) (dropped 1 ps) a (none_bound 1 κs ps a) (valued 1 κs ps a))) (none_had 1 κs 𝓛 ps a (none_bound 1 κs ps a) (valued 1 κs ps a)) $
         nothing ! $ fjoin ! $ move ! (2 ∷ 0 ∷ []) $ fjoin ! $ frame ! $ done !
 
-  pub inside_meets : (c : Clauses 𝓤 (bare ps R)) → Bare ps R 𝓤 Asks f ≡ c → (𝓣 : Tables 𝓤 H) (g : Name) → Triple 𝓤 (𝓣.C g) Callee → Meets 𝓛 (bare ps R).signature (WpFn 𝓤 H 𝓣.C 𝓣.Λ (inside S (mirs ps) R g)) (closing 𝓛 (bare ps R) c)
+  pub inside_meets : (c : Clauses 𝓤 (bare ps R)) → Bare ps R 𝓤 Asks f ≡ c → (𝓣 : Tables 𝓤 H) (g : Key) → Triple 𝓤 (𝓣.C g) Callee → Meets 𝓛 (bare ps R).signature (WpFn 𝓤 H 𝓣.C 𝓣.Λ (inside S (mirs ps) R g)) (closing 𝓛 (bare ps R) c)
   inside_meets c is 𝓣 g known =
       subst (λ (e : Clauses 𝓤 (bare ps R)). Meets 𝓛 (bare ps R).signature (WpFn 𝓤 H 𝓣.C 𝓣.Λ (inside S (mirs ps) R g)) (closing 𝓛 (bare ps R) e)) is
       (walk_Meets 𝓛 (bare ps R) stayed (Goes-none_slice 𝓛 1 (0 ∷ []) tt (plain (λ _. u8)) yes, (Goes-dropped 𝓛 1 (plain (λ _. usize)) yes (λ κs x f. refl), all_go 𝓛 1 ps)) (Bare ps R 𝓤 Asks f) (WpFn 𝓤 H 𝓣.C 𝓣.Λ (inside S (mirs ps) R g)) (WpFn-mono 𝓤 H 𝓛.laws 𝓣 (inside S (mirs ps) R g))

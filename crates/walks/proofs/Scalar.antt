@@ -19,20 +19,20 @@ pub record Scalar : Type 2 where
   pub X : Type 0
   pub coded : Coded X
   pub mir : Ty
-  pub own : X → List Val → Fml
-  pub pure : (x : X) (vs : List Val) → Pure (own x vs)
+  pub own_val : X → List Val → Fml
+  pub pure : (x : X) (vs : List Val) → Pure (own_val x vs)
   pub val : X → Val
-  pub tells : Tells (plain_type X coded (mir ∷ []) own) (Is (plain_type X coded (mir ∷ []) own)) (λ x. val x ∷ [])
-  pub typed : (x : X) → Is (plain_type X coded (mir ∷ []) own) x (val x ∷ []) → Holds (has_ty mir (val x)) × WT (val x)
+  pub tells : Tells (plain_type X coded (mir ∷ []) own_val pure) (Is (plain_type X coded (mir ∷ []) own_val pure)) (λ x. val x ∷ [])
+  pub typed : (x : X) → Is (plain_type X coded (mir ∷ []) own_val pure) x (val x ∷ []) → Holds (has_ty mir (val x)) × WT (val x)
 
 abbrev pub scalar_row : Scalar → RattleType
-scalar_row S = plain_type S.X S.coded (S.mir ∷ []) S.own
+scalar_row S = plain_type S.X S.coded (S.mir ∷ []) S.own_val S.pure
 
 abbrev pub bools : Scalar
-bools = record { X = Bool; coded = coded_bool; mir = ty_bool; own_val = Boolean.own; pure = λ _ _. tt; val = vbool; tells = bool_Tells; typed = λ _ _. (tt, tt) }
+bools = record { X = Bool; coded = coded_bool; mir = ty_bool; own_val = Boolean.own_val; pure = λ _ _. tt; val = vbool; tells = bool_Tells; typed = λ _ _. (tt, tt) }
 
 abbrev pub uints : Width → Scalar
 uints w = record { X = ℕ; coded = coded_ℕ; mir = ty_int w; own_val = (UInt w).own_val; pure = λ _ _. (tt, tt); val = vint w; tells = uint_Tells w; typed = λ _ is. (eqb_refl (bytes w), record { fits = is.1 }) }
 
 pub scalar_makes : (S : Scalar) {M : Type 1} {𝓤 : Ura M} (𝓛 : Logic 𝓤) → Makes 𝓛 (scalar_row S) (Is (scalar_row S))
-scalar_makes S 𝓛 = plain_Makes 𝓛 S.X S.coded (S.mir ∷ []) S.own S.pure
+scalar_makes S 𝓛 = plain_Makes 𝓛 S.X S.coded (S.mir ∷ []) S.own_val S.pure

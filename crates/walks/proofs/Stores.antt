@@ -1,17 +1,15 @@
--- A function that stores what it is passed in a field of its struct, and returns the struct: `fn f(mut s: S, x: X) -> S { s.k = x; s }`, where X is a declared type, as an enum. One walk, for any struct and any such field of it.
---     stores k         the MIR of such a function
---     storing, Stored f    its signature, and its contract: the result is f of the struct and of what is passed
+-- The walk of a function that stores what it is passed in a field of its struct (`Storing`). One walk, for any struct and any such field of it.
 --     walk             where z is the struct with x at k, the function returns z
---     stores-meets     where f puts what is passed at k, and nothing else, the function's MIR meets its contract, c, which is Stored f
+--     stores_meets     where f puts what is passed at k, and nothing else, the function's MIR meets its contract, c, which is Stored f
 -- Of both types it asks that they are seen at exit as they were passed, as plain data is: `refl` shows it. Assumes `Logic`.
 use mathlib.Core.Path.{◌≡◌, refl, sym, ◌∙◌, ap, subst}
 use Prim.Native.Nat.{ℕ}
 use mathlib.Core.Option.{some}
 use mathlib.Core.List.{[], ◌∷◌, List}
 use seplogic.Ra.Ura.{Ura}
-use seplogic.Ra.TreeShare.{full_share}
+use base.Fraction.{full_share}
 use lib.Dec.{T as Holds}
-use mir.Syntax.{Ty, Fn, field, place, copy, rv_opd, seq, assign, return, local, value_local}
+use mir.Syntax.{Ty, Fn}
 use mir.Val.{Val, vstruct, WT, has_ty}
 use mir.Fields.{set_v}
 use base.Logic.{SProp, ent, sep, emp, via, fst∗}
@@ -20,22 +18,19 @@ use prog.Memory.{field_of}
 use prog.Wp.{Calls, Loops, WpFn, Tables}
 use types.Logic.{Logic, sem}
 use contract.Lifetimes.{Lfts}
-use contract.Monad.{fact}
 use types.Kit.{‵, ◌$◌, ◌∵◌, !, qed, by, move, keep, use2, rewrite, fsplit, fjoin, suffices, done}
 use types.Part.{whole, sub, store_in}
 use types.Run.{look, init, forget, stop, fld, from, load, of_opd, assigns, returns, enter, alloc1, alloc0, params1, pass1, pass0, free1, free0}
 use sound.WpLaws.{WpFn-mono}
 use denote.RattleType.{RattleType, owns}
 use denote.Laws.{Is, Typed, shows}
-use denote.Memory.{lone}
 use denote.Signature.{plain}
 use denote.Steps.{peeks, nothing}
-use denote.Struct.At.{FieldAt, put_at, law_at, val_at, spelled, val_put}
+use denote.Struct.At.{put_at, law_at, val_at, spelled, val_put}
 use denote.Struct.Declared.{Declared, row, shape}
 use denote.Struct.Field.{Field}
 use denote.Struct.Laws as LL
-use denote.Struct.Record.{Record, Propositions, declared}
-use denote.Struct.Recorded.{Recorded}
+use denote.Struct.Record.{Record, Propositions}
 use denote.Struct.Rest.{field_own, own_put}
 use denote.Struct.Struct.{Struct}
 use denote.Struct.Values.{Values, intos}
@@ -45,37 +40,30 @@ use denote.Triple.Entry.{on_entry}
 use denote.Triple.Spec.{Meets}
 use denote.Triple.Walked.{says, Stays, stay_dropped, walk_of, Goes-dropped, ends_at, walked, walk_Meets}
 use Rattle.walks.proofs.Forms.{τ, typed}
+use Rattle.walks.proofs.Storing as Of
 use Rattle.walks.proofs.Lends.{same_bound, same_said}
 
 module _ (N : Record) (gp : Propositions N) (k : ℕ) where
   abbrev T : Declared
-  T = declared N gp
+  T = Of.T N gp k
 
   abbrev F : Field
-  F = FieldAt N.parts k
+  F = Of.F N gp k
 
-  -- the field's type as a parameter's, and its MIR type
   abbrev X : RattleType
-  X = Recorded F.row F.Value F.into F.into_one
+  X = Of.X N gp k
 
   abbrev t : Ty
-  t = lone F.row.mir
+  t = Of.t N gp k
 
-  abbrev pub stores : Fn
-  stores = record {
-    lifetimes = 0;
-    outlives = [];
-    params = 2;
-    locals = local (τ T) value_local ∷ local (τ T) value_local ∷ local t value_local ∷ [];
-    body = seq (assign (place 1 (field k ∷ [])) (rv_opd (copy (place 2 []))))
-        (seq (assign (place 0 []) (rv_opd (copy (place 1 [])))) return);
-  }
+  abbrev stores : Fn
+  stores = Of.stores N gp k
 
-  abbrev pub storing : Ended
-  storing = record { signature = record { lifetimes = 0; outlives = []; params = plain (λ _. row T) ∷ plain (λ _. X) ∷ []; result = plain (λ _. row T) }; kept = (yes, (yes, tt)) }
+  abbrev storing : Ended
+  storing = Of.storing N gp k
 
-  abbrev pub Stored : {M : Type 1} (𝓤 : Ura M) → (N.D → F.Value → N.D) → Clauses 𝓤 storing
-  Stored 𝓤 f κs a = record { ghost = Unit {0}; requires = λ _. emp 𝓤; ensures = λ _ r _. fact 𝓤 (r ≡ f a.0 a.1.0) }
+  abbrev Stored : {M : Type 1} (𝓤 : Ura M) → (N.D → F.Value → N.D) → Clauses 𝓤 storing
+  Stored = Of.Stored N gp k
 
   module _ (L : LL.Laws T) (one : F.row.mir ≡ t ∷ []) {d : ℕ} (at : field_of (τ T) k ≡ some (t, d)) {M : Type 1} {𝓤 : Ura M} (𝓛 : Logic 𝓤) where
     open 𝓛 use {H}
@@ -94,15 +82,15 @@ module _ (N : Record) (gp : Propositions N) (k : ℕ) where
       same_val : vstruct (set_v (spelled N.parts L (N.as_values h)) k (arg x)) ≡ val z
       same_val = ap vstruct (val_put N.parts L k x (N.as_values h) ∙ ap (spelled N.parts L) (sym puts))
 
-      owned : ent 𝓤 (sep 𝓤 (sem 𝓛 (S.own h (val h ∷ []))) (sem 𝓛 (field_own N.parts L k x))) (sem 𝓛 (S.own z (val z ∷ [])))
-      owned = subst (λ (v : Values N.parts). ent 𝓤 (sep 𝓤 (sem 𝓛 (S.own h (val h ∷ []))) (sem 𝓛 (field_own N.parts L k x))) (sem 𝓛 ((Struct (shape T)).own_val (intos N.parts v) (vstruct (spelled N.parts L v) ∷ [])))) (sym puts)
+      owned : ent 𝓤 (sep 𝓤 (sem 𝓛 (S.own_val h (val h ∷ []))) (sem 𝓛 (field_own N.parts L k x))) (sem 𝓛 (S.own_val z (val z ∷ [])))
+      owned = subst (λ (v : Values N.parts). ent 𝓤 (sep 𝓤 (sem 𝓛 (S.own_val h (val h ∷ []))) (sem 𝓛 (field_own N.parts L k x))) (sem 𝓛 ((Struct (shape T)).own_val (intos N.parts v) (vstruct (spelled N.parts L v) ∷ [])))) (sym puts)
           (own_put 𝓛 T L k (N.as_values h) x (val h))
 
-      walk : Is S h (val h ∷ []) → Is X x (arg x ∷ []) → (Post : Val → SProp 𝓤) (C : Calls 𝓤 H) (Λ : Loops 𝓤 H) → ent 𝓤 (sem 𝓛 (S.own z (val z ∷ []))) (Post (val z))
-          → ent 𝓤 (sep 𝓤 (sem 𝓛 (S.own h (val h ∷ []))) (sem 𝓛 (field_own N.parts L k x))) (WpFn 𝓤 H C Λ stores (val h ∷ arg x ∷ []) Post)
+      walk : Is S h (val h ∷ []) → Is X x (arg x ∷ []) → (Post : Val → SProp 𝓤) (C : Calls 𝓤 H) (Λ : Loops 𝓤 H) → ent 𝓤 (sem 𝓛 (S.own_val z (val z ∷ []))) (Post (val z))
+          → ent 𝓤 (sep 𝓤 (sem 𝓛 (S.own_val h (val h ∷ []))) (sem 𝓛 (field_own N.parts L k x))) (WpFn 𝓤 H C Λ stores (val h ∷ arg x ∷ []) Post)
       walk was is Post C Λ exits =
           let fits : Holds (has_ty t (arg x)) × WT (arg x) = (subst (λ (τs : List Ty). Typed τs (arg x ∷ [])) one (((law_at N.parts L k).lawful 𝓛).typed (F.into x) (arg x ∷ []) is)).0 in
-          qed 𝓛 (‵ (S.own h (val h ∷ [])) ∷ ‵ (field_own N.parts L k x) ∷ []) ∵ use2 𝓛 (‵ (S.own z (val z ∷ []))) owned $ peeks ! S (Is S) (shows 𝓛 S) z (val z ∷ []) (λ will.
+          qed 𝓛 (‵ (S.own_val h (val h ∷ [])) ∷ ‵ (field_own N.parts L k x) ∷ []) ∵ use2 𝓛 (‵ (S.own_val z (val z ∷ []))) owned $ peeks ! S (Is S) (shows 𝓛 S) z (val z ∷ []) (λ will.
           enter ! C Λ stores (val h ∷ arg x ∷ []) _ $ alloc1 ! (λ l₀. alloc1 ! (λ l₁. alloc1 ! (λ l₂. alloc0 ! $
           params1 ! $ pass1 ! (init ! 2 refl (typed T L 𝓛 h (val h) was)) $ pass1 ! (init ! 0 refl fits) $ pass0 ! $
           -- [what is stored; …; the struct; …; room for the result; …; what z owns]
@@ -120,12 +108,12 @@ module _ (N : Record) (gp : Propositions N) (k : ℕ) where
         abbrev Post : Val → SProp 𝓤
         Post = (walk_of 𝓛 storing stayed (Stored 𝓤 f)).post ((κs, tt, tt, (h, (x, tt)), (val h ∷ [], (arg x ∷ [], tt))), tt)
 
-        enters : ent 𝓤 (on_entry 𝓛 storing.signature κs tt (h, (x, tt)) (val h ∷ [], (arg x ∷ [], tt))) (sep 𝓤 (sem 𝓛 (S.own h (val h ∷ []))) (sem 𝓛 (field_own N.parts L k x)))
+        enters : ent 𝓤 (on_entry 𝓛 storing.signature κs tt (h, (x, tt)) (val h ∷ [], (arg x ∷ [], tt))) (sep 𝓤 (sem 𝓛 (S.own_val h (val h ∷ []))) (sem 𝓛 (field_own N.parts L k x)))
         enters = qed 𝓛 (‵ ftrue ∷ ‵ (owns (S ∷ X ∷ []) (h, (x, tt)) (val h ∷ [], (arg x ∷ [], tt))) ∷ []) ∵ move ! (1 ∷ []) $ fsplit ! $ move ! (1 ∷ []) $ fsplit ! $ move ! (2 ∷ 0 ∷ []) $ keep ! (0 ∷ 1 ∷ []) $ done !
 
-        leaves : (v : Val) → ent 𝓤 (sem 𝓛 (S.own (f h x) (v ∷ []))) (Post v)
+        leaves : (v : Val) → ent 𝓤 (sem 𝓛 (S.own_val (f h x) (v ∷ []))) (Post v)
         leaves v =
-            qed 𝓛 (‵ (S.own (f h x) (v ∷ [])) ∷ []) ∵
+            qed 𝓛 (‵ (S.own_val (f h x) (v ∷ [])) ∷ []) ∵
             suffices ! _ (ends_at 𝓛 storing stayed (Stored 𝓤 f) ((κs, tt, tt, (h, (x, tt)), (val h ∷ [], (arg x ∷ [], tt))), tt) v (f h x) (same_bound (S.exit yes) same h, (same_bound (X.exit yes) same' x, tt)) (tt, (tt, tt))) $ says ! refl $
             nothing ! $ nothing ! $ fjoin ! $ nothing ! $ fjoin ! $ nothing ! $ done !
 
