@@ -1,0 +1,31 @@
+-- `lawful_test::spis_lawful` meets its contract. Assumes nothing.
+use mathlib.Core.Bool.{true}
+use mathlib.Core.Path.{◌≡◌}
+use Prim.Native.Nat.{◌+◌, ◌-◌, ◌≤◌}
+use native.Mathlib.Omega.{arith}
+use borrow.Author.Rules.{rules}
+use Rattle.state.specs.Loop.{every_below}
+use Rattle.lawful_test.specs.LawfulTest.{spi_passes, spis_pass}
+use Rattle.lawful_test.proofs.Loops.{ends, goes_on, leaves}
+use Rattle.lawful_test.proofs.spis_lawful.Goals as goal
+
+pub loop-i-init : goal.loop-i-init
+unfolding every_below
+loop-i-init c = search rules
+
+pub returns-then-not-spi_lawful : goal.returns-then-not-spi_lawful
+returns-then-not-spi_lawful c =
+    let a = c.args in
+    let i = c.loop-i.i in
+    leaves (λ k. spi_passes a.shape a.words.now (32 + k)) i _ c.spi_lawful.ensures (a.shape.limit - 32) (omega arith) c.if-not-spi_lawful.true
+
+pub loop-i-preserved : goal.loop-i-preserved
+loop-i-preserved c =
+    let a = c.args in
+    let l = c.loop-i in
+    (search rules, goes_on (λ k. spi_passes a.shape a.words.now (32 + k)) l.i _ c.spi_lawful.ensures l.invariant.1 c.if-not-spi_lawful.false)
+
+pub returns : goal.returns
+returns c =
+    let a = c.args in
+    ends (λ k. spi_passes a.shape a.words.now (32 + k)) c.loop-i.i _ c.loop-i.invariant.1 (omega arith)

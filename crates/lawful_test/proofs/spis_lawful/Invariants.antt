@@ -1,0 +1,15 @@
+use mathlib.Core.Bool.{true}
+use mathlib.Core.Path.{◌≡◌}
+use Prim.Native.Nat.{◌+◌, ◌-◌, ◌≤◌}
+use native.Mathlib.Omega.{arith}
+use borrow.Author.Rules.{rules}
+use Rattle.state.specs.Loop.{every_below}
+use Rattle.lawful_test.specs.LawfulTest.{spi_passes, spis_pass}
+use Rattle.lawful_test.proofs.Loops.{ends, goes_on, leaves}
+use Rattle.lawful_test.proofs.spis_lawful.Given as goal
+
+abbrev pub invariant-loop-i : goal.invariant-loop-i
+invariant-loop-i l = (l.i ≤ l.many) × (spis_pass l.shape l.words l.i ≡ true)
+
+abbrev pub decreases-loop-i : goal.decreases-loop-i
+decreases-loop-i l = l.many - l.i
