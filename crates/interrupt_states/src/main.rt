@@ -10,7 +10,8 @@ use interrupt::{
     CpuTargetMask, DecodedIntId, IntId, InterruptRecord, InterruptState, Owner, Priority,
     TriggerMode,
 };
-use libc::STDOUT_FILENO;
+use std::io;
+use std::io::Stdout;
 
 fn flag(set: bool, letter: u8) -> u8 {
     if set { letter } else { b'-' }
@@ -47,7 +48,7 @@ fn owner_digit(owner: Owner) -> u8 {
     }
 }
 
-fn show(record: InterruptRecord) {
+fn show(out: Stdout, record: InterruptRecord) -> io::Result<()> {
     let r = word::decode(word::encode(record));
     let trigger = r.trigger;
     let mask = r.cpu_target_mask;
@@ -70,125 +71,126 @@ fn show(record: InterruptRecord) {
         b':',
         owner_digit(owner),
     ];
-    io::write_all(STDOUT_FILENO, &text);
+    out.write_all(&text)
 }
 
-fn show_bool(b: bool) {
+fn show_bool(out: Stdout, b: bool) -> io::Result<()> {
     if b {
-        io::write_all(STDOUT_FILENO, b" yes");
+        out.write_all(b" yes")
     } else {
-        io::write_all(STDOUT_FILENO, b" no");
+        out.write_all(b" no")
     }
 }
 
-fn show_state(state: InterruptState) {
+fn show_state(out: Stdout, state: InterruptState) -> io::Result<()> {
     match state {
-        InterruptState::Inactive => io::write_all(STDOUT_FILENO, b" Inactive"),
-        InterruptState::Pending => io::write_all(STDOUT_FILENO, b" Pending"),
-        InterruptState::Active => io::write_all(STDOUT_FILENO, b" Active"),
-        InterruptState::ActivePending => io::write_all(STDOUT_FILENO, b" ActivePending"),
-    };
+        InterruptState::Inactive => out.write_all(b" Inactive"),
+        InterruptState::Pending => out.write_all(b" Pending"),
+        InterruptState::Active => out.write_all(b" Active"),
+        InterruptState::ActivePending => out.write_all(b" ActivePending"),
+    }
 }
 
-fn accessors(r: InterruptRecord) {
-    show_state(r.state());
-    show_bool(r.has_delivery_state());
-    show_bool(r.deliverable());
+fn accessors(out: Stdout, r: InterruptRecord) -> io::Result<()> {
+    show_state(out, r.state())?;
+    show_bool(out, r.has_delivery_state())?;
+    show_bool(out, r.deliverable())
 }
 
-fn bits(r: InterruptRecord) {
-    show(r.set_enabled(false));
-    show(r.set_enabled(true));
-    show(r.set_pending(false));
-    show(r.set_pending(true));
-    show(r.set_active(false));
-    show(r.set_active(true));
-    show(r.set_state(InterruptState::Inactive));
-    show(r.set_state(InterruptState::Pending));
-    show(r.set_state(InterruptState::Active));
-    show(r.set_state(InterruptState::ActivePending));
+fn bits(out: Stdout, r: InterruptRecord) -> io::Result<()> {
+    show(out, r.set_enabled(false))?;
+    show(out, r.set_enabled(true))?;
+    show(out, r.set_pending(false))?;
+    show(out, r.set_pending(true))?;
+    show(out, r.set_active(false))?;
+    show(out, r.set_active(true))?;
+    show(out, r.set_state(InterruptState::Inactive))?;
+    show(out, r.set_state(InterruptState::Pending))?;
+    show(out, r.set_state(InterruptState::Active))?;
+    show(out, r.set_state(InterruptState::ActivePending))
 }
 
-fn synchronized(r: InterruptRecord, state: InterruptState) {
+fn synchronized(out: Stdout, r: InterruptRecord, state: InterruptState) -> io::Result<()> {
     let got = r.synchronize_inflight(state);
     let after = got.after;
     let merged = got.merged;
-    show(after);
-    show_state(merged);
+    show(out, after)?;
+    show_state(out, merged)
 }
 
-fn delivery(r: InterruptRecord) {
-    show(r.clear_delivery_state());
-    show(r.mark_inflight());
-    synchronized(r, InterruptState::Inactive);
-    synchronized(r, InterruptState::Pending);
-    synchronized(r, InterruptState::Active);
-    synchronized(r, InterruptState::ActivePending);
-    show(r.cancel_inflight());
-    show(r.finish_inflight());
-    show(r.deactivate_inflight(false));
-    show(r.deactivate_inflight(true));
-    show(r.complete());
+fn delivery(out: Stdout, r: InterruptRecord) -> io::Result<()> {
+    show(out, r.clear_delivery_state())?;
+    show(out, r.mark_inflight())?;
+    synchronized(out, r, InterruptState::Inactive)?;
+    synchronized(out, r, InterruptState::Pending)?;
+    synchronized(out, r, InterruptState::Active)?;
+    synchronized(out, r, InterruptState::ActivePending)?;
+    show(out, r.cancel_inflight())?;
+    show(out, r.finish_inflight())?;
+    show(out, r.deactivate_inflight(false))?;
+    show(out, r.deactivate_inflight(true))?;
+    show(out, r.complete())
 }
 
-fn inputs(r: InterruptRecord) {
-    show(after_level(r, false));
-    show(after_level(r, true));
-    show(after_pulse(r));
+fn inputs(out: Stdout, r: InterruptRecord) -> io::Result<()> {
+    show(out, after_level(r, false))?;
+    show(out, after_level(r, true))?;
+    show(out, after_pulse(r))
 }
 
-fn settings(r: InterruptRecord) {
-    show(r.set_priority(Priority::new(0)));
-    show(r.set_priority(Priority::new(128)));
-    show(r.set_priority(Priority::new(255)));
-    show(r.set_trigger(TriggerMode::Level));
-    show(r.set_trigger(TriggerMode::Edge));
-    show(r.set_cpu_target_mask(0));
-    show(r.set_cpu_target_mask(165));
-    show(r.set_cpu_target_mask(255));
+fn settings(out: Stdout, r: InterruptRecord) -> io::Result<()> {
+    show(out, r.set_priority(Priority::new(0)))?;
+    show(out, r.set_priority(Priority::new(128)))?;
+    show(out, r.set_priority(Priority::new(255)))?;
+    show(out, r.set_trigger(TriggerMode::Level))?;
+    show(out, r.set_trigger(TriggerMode::Edge))?;
+    show(out, r.set_cpu_target_mask(0))?;
+    show(out, r.set_cpu_target_mask(165))?;
+    show(out, r.set_cpu_target_mask(255))
 }
 
-fn newline() {
-    io::write_all(STDOUT_FILENO, b"\n");
+fn newline(out: Stdout) -> io::Result<()> {
+    out.write_all(b"\n")
 }
 
 // The new record of a number at both triggers.
-fn new_row(raw: u32) {
-    io::print_decimal(STDOUT_FILENO, raw as u64);
+fn new_row(out: Stdout, raw: u32) -> io::Result<()> {
+    print!(out; "{raw}")?;
     let DecodedIntId::Valid(intid) = IntId::new(raw) else {
-        io::write_all(STDOUT_FILENO, b" none\n");
-        return;
+        return out.write_all(b" none\n");
     };
-    show(InterruptRecord::new(intid, TriggerMode::Level));
-    show(InterruptRecord::new(intid, TriggerMode::Edge));
-    newline();
+    show(out, InterruptRecord::new(intid, TriggerMode::Level))?;
+    show(out, InterruptRecord::new(intid, TriggerMode::Edge))?;
+    newline(out)
 }
 
-fn state_row(w: u32) {
+fn state_row(out: Stdout, w: u32) -> io::Result<()> {
     let r = word::decode(w);
-    show(r);
-    accessors(r);
-    bits(r);
-    delivery(r);
-    inputs(r);
-    settings(r);
-    newline();
+    show(out, r)?;
+    accessors(out, r)?;
+    bits(out, r)?;
+    delivery(out, r)?;
+    inputs(out, r)?;
+    settings(out, r)?;
+    newline(out)
 }
 
 // Every combination of the six flags and the trigger, above them priority, mask and owner.
-fn states(above: u32)
+fn states(out: Stdout, above: u32) -> io::Result<()>
     requires { above < 2 ^ 31 }
 {
     for low in 0..128 {
-        state_row(low + above);
+        state_row(out, low + above)?;
     }
+    Ok(())
 }
 
-fn main() {
+fn main(rt: HostRuntime) -> io::Result<()> {
+    let out = rt.stdout();
     for raw in 0..1024 {
-        new_row(raw);
+        new_row(out, raw)?;
     }
-    states(0);
-    states(0x0300_8080);
-    states(0x08a5_ff80);
+    states(out, 0)?;
+    states(out, 0x0300_8080)?;
+    states(out, 0x08a5_ff80)
 }

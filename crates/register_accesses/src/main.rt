@@ -6,11 +6,12 @@
 
 ghost use Rattle.std.specs.Prelude.{◌+◌, ◌*◌, ◌≤◌, ◌^◌};
 
-use libc::STDOUT_FILENO;
 use register::{
     AccessWidth, BitRegister, ByteRegister, Class, CpuInterfaceAccess, CpuInterfaceRegister,
     DistributorAccess, Place, Refusal,
 };
+use std::io;
+use std::io::Stdout;
 
 #[derive(Clone, Copy)]
 enum Frame {
@@ -18,152 +19,154 @@ enum Frame {
     CpuInterface,
 }
 
-fn show(text: &[u8]) {
-    io::write_all(STDOUT_FILENO, text);
+fn show(out: Stdout, text: &[u8]) -> io::Result<()> {
+    out.write_all(text)
 }
 
-fn number(n: u64) {
-    io::print_decimal(STDOUT_FILENO, n);
+fn number(out: Stdout, n: u64) -> io::Result<()> {
+    print!(out; "{n}")
 }
 
-fn show_refusal(refusal: Refusal) {
-    show(b" ");
-    number(refusal.number() as u64);
+fn show_refusal(out: Stdout, refusal: Refusal) -> io::Result<()> {
+    show(out, b" ")?;
+    number(out, refusal.number() as u64)
 }
 
-fn show_bits(register: BitRegister) {
+fn show_bits(out: Stdout, register: BitRegister) -> io::Result<()> {
     match register {
-        BitRegister::Igroupr => show(b"igroupr"),
-        BitRegister::Isenabler => show(b"isenabler"),
-        BitRegister::Icenabler => show(b"icenabler"),
-        BitRegister::Ispendr => show(b"ispendr"),
-        BitRegister::Icpendr => show(b"icpendr"),
-        BitRegister::Isactiver => show(b"isactiver"),
-        BitRegister::Icactiver => show(b"icactiver"),
-        BitRegister::Icfgr => show(b"icfgr"),
+        BitRegister::Igroupr => show(out, b"igroupr"),
+        BitRegister::Isenabler => show(out, b"isenabler"),
+        BitRegister::Icenabler => show(out, b"icenabler"),
+        BitRegister::Ispendr => show(out, b"ispendr"),
+        BitRegister::Icpendr => show(out, b"icpendr"),
+        BitRegister::Isactiver => show(out, b"isactiver"),
+        BitRegister::Icactiver => show(out, b"icactiver"),
+        BitRegister::Icfgr => show(out, b"icfgr"),
     }
 }
 
-fn show_bytes(register: ByteRegister) {
+fn show_bytes(out: Stdout, register: ByteRegister) -> io::Result<()> {
     match register {
-        ByteRegister::Ipriorityr => show(b"ipriorityr"),
-        ByteRegister::Itargetsr => show(b"itargetsr"),
-        ByteRegister::Cpendsgir => show(b"cpendsgir"),
-        ByteRegister::Spendsgir => show(b"spendsgir"),
+        ByteRegister::Ipriorityr => show(out, b"ipriorityr"),
+        ByteRegister::Itargetsr => show(out, b"itargetsr"),
+        ByteRegister::Cpendsgir => show(out, b"cpendsgir"),
+        ByteRegister::Spendsgir => show(out, b"spendsgir"),
     }
 }
 
-fn show_place(place: Place) {
+fn show_place(out: Stdout, place: Place) -> io::Result<()> {
     let class = place.class;
     let first = place.first.0 as u64;
-    show(b" ");
+    show(out, b" ")?;
     if place.private {
-        show(b"own:");
+        show(out, b"own:")?;
     }
     match class {
-        Class::Ctlr => show(b"ctlr"),
-        Class::Typer => show(b"typer"),
-        Class::Iidr => show(b"iidr"),
-        Class::Sgir => show(b"sgir"),
+        Class::Ctlr => show(out, b"ctlr"),
+        Class::Typer => show(out, b"typer"),
+        Class::Iidr => show(out, b"iidr"),
+        Class::Sgir => show(out, b"sgir"),
         Class::Bits(register) => {
-            show_bits(register);
-            number(first);
+            show_bits(out, register)?;
+            number(out, first)
         }
         Class::Bytes(register) => {
-            show_bytes(register);
-            number(first);
+            show_bytes(out, register)?;
+            number(out, first)
         }
-        Class::Other => show(b"-"),
+        Class::Other => show(out, b"-"),
     }
 }
 
-fn show_distributor(offset: u64, width: AccessWidth) {
+fn show_distributor(out: Stdout, offset: u64, width: AccessWidth) -> io::Result<()> {
     match register::locate_distributor(offset, width) {
-        DistributorAccess::Refused(refusal) => show_refusal(refusal),
-        DistributorAccess::PrivateWidth => show(b" own:2"),
-        DistributorAccess::At(place) => show_place(place),
+        DistributorAccess::Refused(refusal) => show_refusal(out, refusal),
+        DistributorAccess::PrivateWidth => show(out, b" own:2"),
+        DistributorAccess::At(place) => show_place(out, place),
     }
 }
 
 // The aliases act as what they are aliases of, and APR as an unnamed place.
-fn show_register(register: CpuInterfaceRegister) {
+fn show_register(out: Stdout, register: CpuInterfaceRegister) -> io::Result<()> {
     match register {
-        CpuInterfaceRegister::Ctlr => show(b" ctlr"),
-        CpuInterfaceRegister::Pmr => show(b" pmr"),
-        CpuInterfaceRegister::Bpr => show(b" bpr"),
-        CpuInterfaceRegister::Iar => show(b" iar"),
-        CpuInterfaceRegister::Eoir => show(b" eoir"),
-        CpuInterfaceRegister::Rpr => show(b" rpr"),
-        CpuInterfaceRegister::Hppir => show(b" hppir"),
-        CpuInterfaceRegister::Abpr => show(b" bpr"),
-        CpuInterfaceRegister::Aiar => show(b" iar"),
-        CpuInterfaceRegister::Aeoir => show(b" eoir"),
-        CpuInterfaceRegister::Ahppir => show(b" hppir"),
-        CpuInterfaceRegister::Apr => show(b" -"),
-        CpuInterfaceRegister::Iidr => show(b" iidr"),
-        CpuInterfaceRegister::Dir => show(b" dir"),
-        CpuInterfaceRegister::Other => show(b" -"),
+        CpuInterfaceRegister::Ctlr => show(out, b" ctlr"),
+        CpuInterfaceRegister::Pmr => show(out, b" pmr"),
+        CpuInterfaceRegister::Bpr => show(out, b" bpr"),
+        CpuInterfaceRegister::Iar => show(out, b" iar"),
+        CpuInterfaceRegister::Eoir => show(out, b" eoir"),
+        CpuInterfaceRegister::Rpr => show(out, b" rpr"),
+        CpuInterfaceRegister::Hppir => show(out, b" hppir"),
+        CpuInterfaceRegister::Abpr => show(out, b" bpr"),
+        CpuInterfaceRegister::Aiar => show(out, b" iar"),
+        CpuInterfaceRegister::Aeoir => show(out, b" eoir"),
+        CpuInterfaceRegister::Ahppir => show(out, b" hppir"),
+        CpuInterfaceRegister::Apr => show(out, b" -"),
+        CpuInterfaceRegister::Iidr => show(out, b" iidr"),
+        CpuInterfaceRegister::Dir => show(out, b" dir"),
+        CpuInterfaceRegister::Other => show(out, b" -"),
     }
 }
 
-fn show_cpu_interface(offset: u64, width: AccessWidth) {
+fn show_cpu_interface(out: Stdout, offset: u64, width: AccessWidth) -> io::Result<()> {
     match register::locate_cpu_interface(offset, width) {
-        CpuInterfaceAccess::Refused(refusal) => show_refusal(refusal),
-        CpuInterfaceAccess::At(register) => show_register(register),
+        CpuInterfaceAccess::Refused(refusal) => show_refusal(out, refusal),
+        CpuInterfaceAccess::At(register) => show_register(out, register),
     }
 }
 
-fn show_access(frame: Frame, offset: u64, width: AccessWidth) {
+fn show_access(out: Stdout, frame: Frame, offset: u64, width: AccessWidth) -> io::Result<()> {
     match frame {
-        Frame::Distributor => show_distributor(offset, width),
-        Frame::CpuInterface => show_cpu_interface(offset, width),
+        Frame::Distributor => show_distributor(out, offset, width),
+        Frame::CpuInterface => show_cpu_interface(out, offset, width),
     }
 }
 
-fn start(frame: Frame, offset: u64) {
-    show_access(frame, offset, AccessWidth::Byte);
-    show_access(frame, offset, AccessWidth::Word);
-    show_access(frame, offset, AccessWidth::Dword);
-    show_access(frame, offset, AccessWidth::Qword);
+fn start(out: Stdout, frame: Frame, offset: u64) -> io::Result<()> {
+    show_access(out, frame, offset, AccessWidth::Byte)?;
+    show_access(out, frame, offset, AccessWidth::Word)?;
+    show_access(out, frame, offset, AccessWidth::Dword)?;
+    show_access(out, frame, offset, AccessWidth::Qword)
 }
 
-fn letter(frame: Frame) {
+fn letter(out: Stdout, frame: Frame) -> io::Result<()> {
     match frame {
-        Frame::Distributor => show(b"d "),
-        Frame::CpuInterface => show(b"c "),
+        Frame::Distributor => show(out, b"d "),
+        Frame::CpuInterface => show(out, b"c "),
     }
 }
 
-fn place(frame: Frame, offset: u64)
+fn place(out: Stdout, frame: Frame, offset: u64) -> io::Result<()>
     requires { offset + 4 ≤ 2 ^ 64 }
 {
-    letter(frame);
-    number(offset);
-    start(frame, offset);
-    start(frame, offset + 1);
-    start(frame, offset + 2);
-    start(frame, offset + 3);
-    show(b"\n");
+    letter(out, frame)?;
+    number(out, offset)?;
+    start(out, frame, offset)?;
+    start(out, frame, offset + 1)?;
+    start(out, frame, offset + 2)?;
+    start(out, frame, offset + 3)?;
+    show(out, b"\n")
 }
 
-fn places(frame: Frame, first: u64, count: u64)
+fn places(out: Stdout, frame: Frame, first: u64, count: u64) -> io::Result<()>
     requires { first + 4 * count ≤ 2 ^ 64 }
 {
     for i in 0..count {
-        place(frame, first + 4 * i);
+        place(out, frame, first + 4 * i)?;
     }
+    Ok(())
 }
 
 // The frame and 16 places more, and places around 2^32 and below 2^64.
-fn runs(frame: Frame, size: u64)
+fn runs(out: Stdout, frame: Frame, size: u64) -> io::Result<()>
     requires { size ≤ 2 ^ 32 }
 {
-    places(frame, 0, size / 4 + 16);
-    places(frame, 0xffff_fff0, 20);
-    places(frame, 0xffff_ffff_ffff_ffc0, 16);
+    places(out, frame, 0, size / 4 + 16)?;
+    places(out, frame, 0xffff_fff0, 20)?;
+    places(out, frame, 0xffff_ffff_ffff_ffc0, 16)
 }
 
-fn main() {
-    runs(Frame::Distributor, 0x1000);
-    runs(Frame::CpuInterface, 0x2000);
+fn main(rt: HostRuntime) -> io::Result<()> {
+    let out = rt.stdout();
+    runs(out, Frame::Distributor, 0x1000)?;
+    runs(out, Frame::CpuInterface, 0x2000)
 }
