@@ -3,7 +3,7 @@
 use Prim.Native.Nat.{◌<◌, ◌≤◌}
 use native.Mathlib.Omega.{arith}
 use Rattle.register.specs.Ranges.{ranges, range_in, range_at}
-use Rattle.register.proofs.Map.{class_row, class_row_lem, none_below}
+use Rattle.register.proofs.Map.{class_row, class_row_lem}
 use Rattle.register.proofs.dispatch.row.Goals as goal
 
 pub returns-in-0 : goal.returns-in-0
@@ -134,6 +134,6 @@ pub returns-in_default : goal.returns-in_default
 unfolding class_row range_at range_in ranges
 returns-in_default c =
     let n = c.args.number in
-    let low : 31 ≤ n = none_below 31 n c.in_default.in_default-own.rest in
+    let low : 31 ≤ n = omega arith in
     let high : n < 32 = c.requires in
     class_row_lem 31 (omega (arith, low, high))

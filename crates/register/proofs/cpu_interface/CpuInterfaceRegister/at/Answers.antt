@@ -1,5 +1,6 @@
 -- `CpuInterfaceRegister::at` is `register_at`: each offset by its row, and any other by none.
-use borrow.Author.Tests.{ne_eqb}
+use borrow.Author.Tests.{tests}
+use borrow.Author.Rules.{rules}
 use Rattle.register.specs.CpuInterface.{registers, register_in, register_at}
 use Rattle.register.proofs.cpu_interface.CpuInterfaceRegister.at.Goals as goal
 
@@ -61,22 +62,4 @@ returns-in-4096 c = simp c.in-4096.is
 
 pub returns-in_default : goal.returns-in_default
 unfolding register_at register_in registers
-returns-in_default c =
-    let o = c.args.offset in
-    let r = c.in_default.in_default-own.rest in
-    simp (
-      ne_eqb o 0x00 r.0.0.0.0.0.0.0.0.0.0.0.0.0.1,
-      ne_eqb o 0x04 r.0.0.0.0.0.0.0.0.0.0.0.0.1,
-      ne_eqb o 0x08 r.0.0.0.0.0.0.0.0.0.0.0.1,
-      ne_eqb o 0x0c r.0.0.0.0.0.0.0.0.0.0.1,
-      ne_eqb o 0x10 r.0.0.0.0.0.0.0.0.0.1,
-      ne_eqb o 0x14 r.0.0.0.0.0.0.0.0.1,
-      ne_eqb o 0x18 r.0.0.0.0.0.0.0.1,
-      ne_eqb o 0x1c r.0.0.0.0.0.0.1,
-      ne_eqb o 0x20 r.0.0.0.0.0.1,
-      ne_eqb o 0x24 r.0.0.0.0.1,
-      ne_eqb o 0x28 r.0.0.0.1,
-      ne_eqb o 0xd0 r.0.0.1,
-      ne_eqb o 0xfc r.0.1,
-      ne_eqb o 0x1000 r.1,
-    )
+returns-in_default c = search (tests, rules)

@@ -1,5 +1,6 @@
 -- `AccessWidth::new` is `decoded_width`. Assumes nothing.
-use borrow.Author.Tests.{ne_eqb}
+use borrow.Author.Tests.{tests}
+use borrow.Author.Rules.{rules}
 use Rattle.register.specs.Frame.{decoded_width}
 use Rattle.register.proofs.frame.AccessWidth.new.Goals as goal
 
@@ -21,7 +22,4 @@ returns-in-8 c = simp c.in-8.is
 
 pub returns-in_default : goal.returns-in_default
 unfolding decoded_width
-returns-in_default c =
-    let r = c.in_default.in_default-own.rest in
-    let n = c.args.bytes in
-    simp (ne_eqb n 1 r.0.0.0.1, ne_eqb n 2 r.0.0.1, ne_eqb n 4 r.0.1, ne_eqb n 8 r.1)
+returns-in_default c = search (tests, rules)

@@ -1,6 +1,7 @@
 -- `Class::of_number` is `class_of`: a number below 16 by its row, and no row from 16 up.
+use native.Mathlib.Omega.{arith}
 use Rattle.register.specs.Ranges.{ranges, range_numbered, class_of}
-use Rattle.register.proofs.Map.{numbered_past, none_below}
+use Rattle.register.proofs.Map.{numbered_past}
 use Rattle.register.proofs.ranges.Class.of_number.Goals as goal
 
 pub returns-in-0 : goal.returns-in-0
@@ -69,4 +70,4 @@ returns-in-15 c = simp c.in-15.is
 
 pub returns-in_default : goal.returns-in_default
 unfolding class_of range_numbered ranges
-returns-in_default c = simp (numbered_past _ (none_below 16 _ c.in_default.in_default-own.rest))
+returns-in_default c = simp (numbered_past c.args.number (omega arith))

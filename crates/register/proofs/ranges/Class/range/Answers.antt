@@ -1,9 +1,10 @@
 -- `Class::range` is `range_of`: the constant's rows are the definition's.
 -- where a number n is both m and k, the row at k is the row at m
+use native.Mathlib.Omega.{arith}
 use mathlib.Core.Path.{◌≡◌, sym, ap, ◌∙◌}
 use Prim.Native.Nat.{ℕ}
 use Rattle.register.specs.Ranges.{ranges, range_numbered, range_of}
-use Rattle.register.proofs.Map.{numbered_past, none_below}
+use Rattle.register.proofs.Map.{numbered_past}
 use Rattle.register.proofs.ranges.Class.range.Goals as goal
 
 same_row : {n m : ℕ} → n ≡ m → (k : ℕ) → n ≡ k → range_numbered k ≡ range_numbered m
@@ -75,4 +76,4 @@ returns-in-15 c = same_row c.number.ensures 15 c.in-15.is
 
 pub returns-in_default : goal.returns-in_default
 unfolding range_of
-returns-in_default c = simp (← c.number.ensures, numbered_past _ (none_below 16 _ c.in_default.in_default-own.rest))
+returns-in_default c = simp (← c.number.ensures, numbered_past c.number.result (omega arith))
