@@ -7,6 +7,7 @@ use borrow.Author.Rules.{rules}
 use Rattle.state.specs.Loop.{every_below}
 use Rattle.lawful_test.specs.LawfulTest.{spi_passes, spis_pass}
 use Rattle.lawful_test.proofs.Loops.{ends, goes_on, leaves}
+use Rattle.std.proofs.lemmas.Bool.{not_from_true, not_from_false}
 use Rattle.lawful_test.proofs.spis_lawful.Goals as goal
 
 pub loop-i-init : goal.loop-i-init
@@ -17,13 +18,13 @@ pub returns-then-not-spi_lawful : goal.returns-then-not-spi_lawful
 returns-then-not-spi_lawful c =
     let a = c.args in
     let i = c.loop-i.i in
-    leaves (λ k. spi_passes a.shape a.words.now (32 + k)) i _ c.spi_lawful.ensures (a.shape.limit - 32) (omega arith) c.if-not-spi_lawful.true
+    leaves (λ k. spi_passes a.shape a.words.now (32 + k)) i _ c.spi_lawful.ensures (a.shape.limit - 32) (omega arith) (not_from_false _ c.if-not-spi_lawful.true)
 
 pub loop-i-preserved : goal.loop-i-preserved
 loop-i-preserved c =
     let a = c.args in
     let l = c.loop-i in
-    (search rules, goes_on (λ k. spi_passes a.shape a.words.now (32 + k)) l.i _ c.spi_lawful.ensures l.invariant.1 c.if-not-spi_lawful.false)
+    (search rules, goes_on (λ k. spi_passes a.shape a.words.now (32 + k)) l.i _ c.spi_lawful.ensures l.invariant.1 (not_from_true _ c.if-not-spi_lawful.false))
 
 pub returns : goal.returns
 returns c =

@@ -9,6 +9,7 @@ use Rattle.state.specs.Loop.{every_below}
 use Rattle.service.specs.Service.{stack_to, running_of}
 use Rattle.lawful_test.specs.LawfulTest.{entry_lawful_at}
 use Rattle.lawful_test.proofs.Loops.{ends, goes_on, leaves}
+use Rattle.std.proofs.lemmas.Bool.{not_from_true, not_from_false}
 use Rattle.lawful_test.proofs.stack_lawful.Goals as goal
 
 pub loop-i-init : goal.loop-i-init
@@ -23,7 +24,7 @@ returns-then-not-entry_lawful c =
     let a = c.args in
     let l = c.loop-i in
     let same = simp (l.invariant.1, c.stack_entry-entry.ensures) at c.entry_lawful.ensures in
-    leaves (entry_lawful_at a.shape a.vcpu.0 a.words.now) l.i _ same _ (omega (arith, c.depth-held.ensures)) c.if-not-entry_lawful.true
+    leaves (entry_lawful_at a.shape a.vcpu.0 a.words.now) l.i _ same _ (omega (arith, c.depth-held.ensures)) (not_from_false _ c.if-not-entry_lawful.true)
 
 pub loop-i-preserved : goal.loop-i-preserved
 unfolding stack_to
@@ -32,7 +33,7 @@ loop-i-preserved c =
     let l = c.loop-i in
     let entry = c.stack_entry-entry.ensures in
     let same = simp (l.invariant.1, entry) at c.entry_lawful.ensures in
-    (search rules, rw add-one (simp entry), goes_on (entry_lawful_at a.shape a.vcpu.0 a.words.now) l.i _ same l.invariant.2 c.if-not-entry_lawful.false)
+    (search rules, rw add-one (simp entry), goes_on (entry_lawful_at a.shape a.vcpu.0 a.words.now) l.i _ same l.invariant.2 (not_from_true _ c.if-not-entry_lawful.false))
 
 pub returns : goal.returns
 returns c =
