@@ -1,0 +1,17 @@
+use mathlib.Core.Bool.{cond}
+use mathlib.Core.Path.{◌≡◌, refl, sym, ◌∙◌}
+use Prim.Native.Nat.{◌-◌, ◌≤◌}
+use native.Mathlib.Omega.{arith}
+use lib.ListN.{length}
+use borrow.Author.Rules.{rules}
+use Rattle.state.specs.Loop.{up_to}
+use Rattle.state.specs.Words.{with_entry}
+use Rattle.load.specs.Walking.{spot, entry_spot, entries_stored}
+use Rattle.load.proofs.Walks.{cond_same, stored_on, still_room, entry_taken, entry_refused}
+use Rattle.load.proofs.walking.take_entries.Given as goal
+
+abbrev pub invariant-loop-i : goal.invariant-loop-i
+invariant-loop-i l = (l.i ≤ l.depth) × ((length l.words ≡ length l.fn.words) × ((entry_spot l.shape l.image l.start l.i ≡ spot l.at l.above.0) × (l.words ≡ cond l.stores (entries_stored l.shape l.image l.vcpu.0 l.start l.i l.fn.words) l.fn.words)))
+
+abbrev pub decreases-loop-i : goal.decreases-loop-i
+decreases-loop-i l = l.depth - l.i

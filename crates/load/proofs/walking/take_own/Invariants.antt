@@ -1,0 +1,18 @@
+use mathlib.Core.Path.{◌≡◌, refl, sym, ◌∙◌}
+use Prim.Native.Nat.{◌+◌, ◌*◌, ◌-◌, ◌≤◌}
+use native.Mathlib.Omega.{arith}
+use lib.ListN.{length}
+use borrow.Author.Rules.{rules}
+use Rattle.image.specs.Parts.{Interrupt}
+use Rattle.load.specs.declared.walking.Place.TheVariants.{At, Refused}
+use Rattle.load.specs.Walking.{Section}
+use Rattle.load.proofs.Walks.{still_room}
+use Rattle.load.proofs.Sections.{section_none, section_part, section_then, section_refused}
+use Rattle.image.proofs.Cases.{private_part}
+use Rattle.load.proofs.walking.take_own.Given as goal
+
+abbrev pub invariant-loop-n : goal.invariant-loop-n
+invariant-loop-n l = (l.n ≤ l.many) × ((length l.words ≡ length l.fn.words) × Section l.shape l.image (2 * l.shape.count + 32 * l.vcpu.0) l.n l.stores l.start l.fn.words (At l.at) l.words)
+
+abbrev pub decreases-loop-n : goal.decreases-loop-n
+decreases-loop-n l = l.many - l.n

@@ -1,0 +1,18 @@
+use mathlib.Core.Path.{◌≡◌, refl, sym, ◌∙◌}
+use Prim.Native.Nat.{◌+◌, ◌*◌, ◌-◌, ◌≤◌}
+use native.Mathlib.Omega.{arith}
+use lib.ListN.{length}
+use borrow.Author.Rules.{rules}
+use Rattle.image.specs.Parts.{Interrupt}
+use Rattle.load.specs.declared.walking.Place.TheVariants.{At, Refused}
+use Rattle.load.specs.Walking.{Section}
+use Rattle.load.proofs.Walks.{still_room}
+use Rattle.load.proofs.Sections.{section_none, section_part, section_then, section_refused}
+use Rattle.image.proofs.Cases.{spi_part}
+use Rattle.load.proofs.walking.take_spis.Given as goal
+
+abbrev pub invariant-loop-k : goal.invariant-loop-k
+invariant-loop-k l = (l.k ≤ l.many) × ((length l.words ≡ length l.fn.words) × Section l.shape l.image (34 * l.shape.count) l.k l.stores l.start l.fn.words (At l.at) l.words)
+
+abbrev pub decreases-loop-k : goal.decreases-loop-k
+decreases-loop-k l = l.many - l.k

@@ -1,0 +1,15 @@
+use Prim.Native.Nat.{◌-◌, ◌≤◌}
+use native.Mathlib.Omega.{arith}
+use borrow.Author.Rules.{rules}
+use Rattle.groups.specs.Groups.{spelled, Wrote}
+use Rattle.groups.proofs.Writing.{wrote_length}
+use Rattle.save.specs.Fitting.{entries_numbers}
+use Rattle.save.proofs.Pieces.{loop_starts, loop_fits, loop_goes, loop_ends}
+use Rattle.save.proofs.walking.put_entries.Given as goal
+
+abbrev pub invariant-loop-i : goal.invariant-loop-i
+invariant-loop-i l =
+    (l.i ≤ l.held) × (Wrote l.writes (spelled (entries_numbers l.shape l.words l.vcpu.0 l.i)) l.start l.fn.out l.out l.at)
+
+abbrev pub decreases-loop-i : goal.decreases-loop-i
+decreases-loop-i l = l.held - l.i

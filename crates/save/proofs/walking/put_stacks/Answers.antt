@@ -1,0 +1,29 @@
+-- `save::walking::put_stacks` meets its contract. Assumes nothing.
+use Prim.Native.Nat.{◌-◌, ◌≤◌}
+use native.Mathlib.Omega.{arith}
+use borrow.Author.Rules.{rules}
+use Rattle.groups.specs.Groups.{spelled, Wrote}
+use Rattle.groups.proofs.Writing.{wrote_length}
+use Rattle.service.proofs.Soundness.{sound_served}
+use Rattle.image.specs.Image.{each, service_numbers}
+use Rattle.save.proofs.Pieces.{loop_starts, loop_fits, loop_goes, loop_ends}
+use Rattle.save.proofs.walking.put_stacks.Goals as goal
+
+pub loop-v-init : goal.loop-v-init
+loop-v-init c = (omega arith, loop_starts _ _ c.requires.1)
+
+pub put_service-at-requires : goal.put_service-at-requires
+put_service-at-requires c =
+    let l = c.loop-v in
+    (sound_served _ c.requires.0 (omega arith), loop_fits _ l.v l.invariant.1 _ (omega arith) c.requires.1)
+
+pub loop-v-preserved : goal.loop-v-preserved
+loop-v-preserved c =
+    let l = c.loop-v in
+    (omega arith, loop_goes _ l.v l.invariant.1 c.put_service-at.ensures)
+
+pub shape_of-out : goal.shape_of-out
+shape_of-out c = wrote_length c.loop-v.invariant.1
+
+pub returns : goal.returns
+returns c = loop_ends _ _ c.loop-v.invariant.1 _ (omega arith)

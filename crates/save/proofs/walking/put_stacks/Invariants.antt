@@ -1,0 +1,16 @@
+use Prim.Native.Nat.{◌-◌, ◌≤◌}
+use native.Mathlib.Omega.{arith}
+use borrow.Author.Rules.{rules}
+use Rattle.groups.specs.Groups.{spelled, Wrote}
+use Rattle.groups.proofs.Writing.{wrote_length}
+use Rattle.service.proofs.Soundness.{sound_served}
+use Rattle.image.specs.Image.{each, service_numbers}
+use Rattle.save.proofs.Pieces.{loop_starts, loop_fits, loop_goes, loop_ends}
+use Rattle.save.proofs.walking.put_stacks.Given as goal
+
+abbrev pub invariant-loop-v : goal.invariant-loop-v
+invariant-loop-v l =
+    (l.v ≤ l.count) × (Wrote l.writes (spelled (each (service_numbers l.shape l.words) l.v)) l.start l.fn.out l.out l.at)
+
+abbrev pub decreases-loop-v : goal.decreases-loop-v
+decreases-loop-v l = l.count - l.v
