@@ -2,7 +2,7 @@
 use mathlib.Core.Path.{◌≡◌, ap, ◌∙◌}
 use Prim.Native.Nat.{◌+◌, ◌/◌, ◌%◌}
 use native.Mathlib.Omega.{arith}
-use lib.ListN.{length, length-set, length-append}
+use lib.ListN.{length, length-append}
 use Rattle.script.specs.Text.{decimal}
 use Rattle.script.proofs.Puts.{put_then, put_one, put_length, decimal_short, decimal_long}
 use Rattle.script.proofs.text.+put_decimal.Goals as goal
