@@ -32,6 +32,7 @@ pub enum CpuInterfaceAccess {
 }
 
 impl CpuInterfaceRegister {
+    #[tactic(auto, unfolding(crate::specs::CpuInterface::register_at, crate::specs::CpuInterface::register_in, crate::specs::CpuInterface::registers))]
     fn at(offset: u64) -> Self
         ensures { result ≡ register_at offset }
     {
@@ -56,6 +57,7 @@ impl CpuInterfaceRegister {
 }
 
 // Every access is 4 bytes, unnamed places too.
+#[tactic(auto, unfolding(crate::specs::CpuInterface::locate_cpu_interface))]
 pub fn locate_cpu_interface(offset: u64, width: AccessWidth) -> CpuInterfaceAccess
     ensures { result ≡ locate_cpu_interface offset width }
 {

@@ -107,6 +107,7 @@ fn byte_place(register: ByteRegister, offset: u64) -> Place
 }
 
 // At a width that the register does not take.
+#[tactic(auto, unfolding(crate::specs::Distributor::unfit))]
 fn unfit(place: Place) -> DistributorAccess
     ensures { result ≡ unfit place }
 {
@@ -118,6 +119,7 @@ fn unfit(place: Place) -> DistributorAccess
 }
 
 // Past its first byte a single register is no register.
+#[tactic(auto, unfolding(crate::specs::Distributor::single))]
 fn single(class: Class, offset: u64, width: AccessWidth) -> DistributorAccess
     ensures { result ≡ single class offset width }
 {
@@ -132,6 +134,7 @@ fn single(class: Class, offset: u64, width: AccessWidth) -> DistributorAccess
 }
 
 // A start past the first byte of a word is refused before anybody is looked up.
+#[tactic(auto, unfolding(crate::specs::Distributor::bit_word))]
 fn bit_word(place: Place, offset: u64, width: AccessWidth) -> DistributorAccess
     ensures { result ≡ bit_word place offset width }
 {
@@ -145,6 +148,7 @@ fn bit_word(place: Place, offset: u64, width: AccessWidth) -> DistributorAccess
     }
 }
 
+#[tactic(auto, unfolding(crate::specs::Distributor::byte_array))]
 fn byte_array(place: Place, width: AccessWidth) -> DistributorAccess
     ensures { result ≡ byte_array place width }
 {
@@ -155,6 +159,7 @@ fn byte_array(place: Place, width: AccessWidth) -> DistributorAccess
     }
 }
 
+#[tactic(auto, unfolding(crate::specs::Distributor::locate_in_frame))]
 fn locate_in_frame(class: Class, offset: u64, width: AccessWidth) -> DistributorAccess
     requires { Found class offset }
     ensures { result ≡ locate_in_frame offset width }
@@ -171,6 +176,7 @@ fn locate_in_frame(class: Class, offset: u64, width: AccessWidth) -> Distributor
 }
 
 // Decides by offset and width alone, and looks nobody up.
+#[tactic(auto, using(crate::proofs::Access::in_frame_below), unfolding(crate::specs::Distributor::locate_distributor))]
 pub fn locate_distributor(offset: u64, width: AccessWidth) -> DistributorAccess
     ensures { result ≡ locate_distributor offset width }
 {

@@ -46,6 +46,7 @@ pub enum Refusal {
 }
 
 impl AccessWidth {
+    #[tactic(auto, unfolding(crate::specs::Frame::decoded_width))]
     pub fn new(bytes: u64) -> DecodedWidth
         ensures { result ≡ decoded_width bytes }
     {

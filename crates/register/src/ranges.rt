@@ -173,6 +173,7 @@ impl Class {
         }
     }
 
+    #[tactic(auto, using(crate::proofs::Map::numbered_past), unfolding(crate::specs::Ranges::class_of, crate::specs::Ranges::range_numbered, crate::specs::Ranges::ranges))]
     pub fn of_number(number: u8) -> Self
         ensures { result ≡ class_of number }
     {
@@ -198,6 +199,7 @@ impl Class {
     }
 
     // Where the class lies; the other places are in no row.
+    #[tactic(auto, using(crate::proofs::Map::numbered_past), unfolding(crate::specs::Ranges::range_of, crate::specs::Ranges::range_numbered, crate::specs::Ranges::ranges))]
     pub fn range(self) -> RegisterRange
         ensures { result ≡ range_of self }
     {

@@ -26,6 +26,7 @@ fn numbers(line: &[u8], from: usize) -> Numbers
     so_far
 }
 
+#[tactic(auto, using(crate::proofs::Fields::short, crate::proofs::Fields::spaced, crate::proofs::Fields::run_on), unfolding(crate::specs::Line::request_of))]
 pub fn parse_line(line: &[u8]) -> Request
     ensures { result ≡ request_of line.now }
 {

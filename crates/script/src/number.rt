@@ -23,6 +23,7 @@ pub enum Digits {
 }
 
 // The largest number is 18446744073709551615: a digit more may be no number any more.
+#[tactic(auto, unfolding(crate::specs::Reading::digit_after))]
 fn more_digits(value: u64, byte: u8) -> Digits
     ensures { result ≡ digit_after value byte }
 {

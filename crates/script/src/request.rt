@@ -201,6 +201,7 @@ fn pulse(numbers: Numbers) -> Request
     })
 }
 
+#[tactic(auto, unfolding(crate::specs::Request::request_for))]
 pub fn request_for(letter: u8, numbers: Numbers) -> Request
     ensures { result ≡ request_for letter numbers }
 {
