@@ -44,7 +44,7 @@ unfoldable pub range_in : List RegisterRange → ℕ → RegisterRange
 range_in [] offset = nowhere
 range_in (r ∷ rs) offset = cond (holds r offset) r (range_in rs offset)
 
--- the range that holds an offset, and its class; no second range does (`ranges_Apart` in proofs/Map.antt)
+-- the range that holds an offset, and its class; no second range does (`ranges_apart` in proofs/Map.antt)
 unfoldable pub range_at : ℕ → RegisterRange
 range_at offset = range_in ranges offset
 
