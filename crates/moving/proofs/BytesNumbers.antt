@@ -64,7 +64,7 @@ unfolding each
 row_each {image} {at} {next} f zero p i h = absurd (omega arith)
 row_each {image} {at} {next} f (suc n) p i h =
     let two = row_parts (each f n) (f n) p in
-    last_or i n h (λ e. rw (e, ← p.past) two.rest) (λ below. row_each f n two.first i below)
+    last_or i n h (λ e. rw (e, ← p.past) two.rest) (λ below. row_each {next = at + length (spelled (each f n))} f n two.first i below)
 
 -- a row's first number, as it is found, and the row past it
 pub record First (image : List ℕ) (it : Found) (next n : ℕ) (ns : List ℕ) : Type 0 where

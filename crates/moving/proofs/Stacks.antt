@@ -35,7 +35,7 @@ row_same {image} {at} {next} {next'} (x ∷ xs) (y ∷ ys) l a b p q =
     let found : Number x f.place ≡ Number y g.place = sym f.found ∙ g.found in
     let place : f.place ≡ g.place = cc in
     let number : x ≡ y = cc in
-    λ i. number i ∷ row_same {next' = next'} xs ys (omega (arith, l)) a.1 b.1 f.rest (subst (λ (k : ℕ). Row image k next' ys) (sym place) g.rest) i
+    λ i. number i ∷ row_same {at = f.place} {next = next} {next' = next'} xs ys (omega (arith, l)) a.1 b.1 f.rest (subst (λ (k : ℕ). Row image k next' ys) (sym place) g.rest) i
 
 -- so are lists one after another, if each of them is
 module _ {image : List ℕ} {at next next' : ℕ} (f g : ℕ → List ℕ) (n : ℕ) (p : Row image at next (each f n)) (q : Row image at next' (each g n))

@@ -1,0 +1,24 @@
+-- `runner::step` meets its contract. Assumes nothing.
+use mathlib.Core.Path.{sym}
+use lib.Seq.{length-take-le}
+use Rattle.runner.proofs.Running.{newline, byte_kept, byte_dropped}
+use borrow.Author.Rules.{rules}
+use Rattle.runner.proofs.blocks.step.Goals as goal
+
+pub slice_bounds-answer_line-end-then-byte-eq10 : goal.slice_bounds-answer_line-end-then-byte-eq10
+slice_bounds-answer_line-end-then-byte-eq10 c = sym (length-take-le c.args.begun c.args.line.now (search rules))
+
+pub returns-then-byte-eq10 : goal.returns-then-byte-eq10
+returns-then-byte-eq10 c =
+    let a = c.args in
+    newline a.begun a.line.now a.words.now a.at a.out.now a.byte c.if-byte-eq10.true c.answer_line-end.ensures
+
+pub returns-then-begun-lt-KEPT : goal.returns-then-begun-lt-KEPT
+returns-then-begun-lt-KEPT c =
+    let a = c.args in
+    byte_kept a.begun a.line.now a.words.now a.at a.out.now a.byte c.if-byte-eq10.false c.if-begun-lt-KEPT.true (search rules) (search rules)
+
+pub returns : goal.returns
+returns c =
+    let a = c.args in
+    byte_dropped a.begun a.line.now a.words.now a.at a.out.now a.byte c.if-byte-eq10.false c.if-begun-lt-KEPT.false (search rules) (search rules) (search rules)

@@ -1,0 +1,6 @@
+-- `runner::put` meets its contract. Assumes nothing.
+use borrow.Author.Rules.{rules}
+use Rattle.runner.proofs.lines.put.Goals as goal
+
+pub returns : goal.returns
+returns c = simp (← c.refusal.ensures, ← c.value.ensures, ← c.wake.ensures, ← c.retired.ensures) c.put_answer.ensures
