@@ -53,7 +53,7 @@ loop-i-preserved c =
     let inv = c.loop-i.invariant in
     let a = c.args in
     let kept = c.step-place.auto in
-    (search rules, search rules, kept.0 ∙ inv.2, kept.1.0 ∙ inv.3, kept.1.1.1.1.0 ∙ inv.4, rw (slice_more a.input.now a.from c.loop-i.i inv.0 c.loop-i-test.true) (ran_then a.begun a.line.now a.words.now 0 a.out.now inv.5 c.step-place.ensures))
+    (search rules, search rules, kept.words ∙ inv.2, kept.line ∙ inv.3, kept.out ∙ inv.4, rw (slice_more a.input.now a.from c.loop-i.i inv.0 c.loop-i-test.true) (ran_then a.begun a.line.now a.words.now 0 a.out.now inv.5 c.step-place.ensures))
 
 pub shape_of-words : goal.shape_of-words
 shape_of-words c = c.loop-i.invariant.2
