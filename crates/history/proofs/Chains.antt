@@ -32,7 +32,7 @@ use Rattle.sgi.specs.Sgi.{merged_sources, write_sources, sourced, pend_sgi, incl
 use Rattle.sgi.proofs.Rings.{joined_some, merged_fits}
 use Rattle.distributor.specs.Bytes.{write_priority, write_byte, write_bytes, ByteThere, BytesAt}
 use Rattle.places.specs.Places.{sends, write_class, write_place, PlaceWritten}
-use Rattle.places.proofs.Fits.{bit_word, byte_run}
+use Rattle.places.proofs.Fits.{bit_word_lem, byte_run}
 use Rattle.service.specs.Service.{Sound}
 use Rattle.moves.specs.Moves as moves
 use Rattle.moves.specs.Moves.{Change, Move, Changed, Sourced, Switched, becomes, Fits, resourced, moved, Open, Chain, none, more}
@@ -172,6 +172,6 @@ module _ (shape : Shape) (v : ℕ) (width : AccessWidth) (value : ℕ) (s : List
       by_class Typer e = none
       by_class Iidr e = none
       by_class Sgir e = if_chain (sends value) (λ p. rings_chain (at.looked (simp e p)))
-      by_class (Bits register) e = bits_chain register place.first.0 (bit_word shape v place width s at.state at.located register e (λ q. at.looked (simp e q)))
+      by_class (Bits register) e = bits_chain register place.first.0 (bit_word_lem shape v place width s at.state at.located register e (λ q. at.looked (simp e q)))
       by_class (Bytes register) e = bytes_chain register place.first.0 (bytes width) (byte_run shape v place width s at.state at.located register e (λ q. at.looked (simp e q)))
       by_class Other e = none
