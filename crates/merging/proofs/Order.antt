@@ -36,7 +36,7 @@ use Rattle.bits.proofs.Registers.{field_own}
 use Rattle.distributor.proofs.Registers.{run_own}
 use Rattle.distributor.specs.Bytes.{write_byte, write_bytes}
 use Rattle.places.specs.Places.{write_place_looks_up, write_class, write_place, PlaceWritten}
-use Rattle.places.proofs.Fits.{bit_word, byte_run}
+use Rattle.places.proofs.Fits.{bit_word_lem, byte_run}
 use Rattle.answer.specs.Answer.{Outcome, absent}
 use Rattle.merging.specs.Merging.{PlacedAs, write_there, EitherOrder, NoCommonByte, numbers_in, NoCommonNumber, has_numbers}
 use Rattle.merging.proofs.Calls.{broken, written, place_at_lem, after_valid}
@@ -75,7 +75,7 @@ module _ (shape : Shape) (v : ℕ) (place : Place) (w : AccessWidth) (x : ℕ) (
   own_by Typer e has i h = absurd (true≢false (sym has))
   own_by Iidr e has i h = absurd (true≢false (sym has))
   own_by Sgir e has i h = absurd (true≢false (sym has))
-  own_by (Bits register) e has i h = field_own shape register v place.first.0 x s (bit_word shape v place w s at.state at.located register e (λ q. at.looked (simp e q))) i
+  own_by (Bits register) e has i h = field_own shape register v place.first.0 x s (bit_word_lem shape v place w s at.state at.located register e (λ q. at.looked (simp e q))) i
   own_by (Bytes register) e has i h = run_own shape register v place.first.0 (bytes w) x s (byte_run shape v place w s at.state at.located register e (λ q. at.looked (simp e q))) i h
   own_by Other e has i h = absurd (true≢false (sym has))
 

@@ -29,7 +29,7 @@ use Rattle.sgi.proofs.Rings.{written_sources, written_pends}
 use Rattle.distributor.specs.Bytes.{write_byte, write_bytes, ByteThere, BytesAt}
 use Rattle.distributor.proofs.Registers.{run_own, bytes_written}
 use Rattle.places.specs.Places.{sends, ringed, write_class, write_place, PlaceWritten}
-use Rattle.places.proofs.Fits.{bit_word, byte_run}
+use Rattle.places.proofs.Fits.{bit_word_lem, byte_run}
 use Rattle.merging.specs.Merging.{SameRing, MayMerge, as_one, wakes_add, wakes_nobody}
 use Rattle.merging.proofs.Bits.{bits_as_one_lem}
 use Rattle.merging.proofs.Bytes.{ByteNeeds, needs_kept, bytes_as_one_lem}
@@ -146,7 +146,7 @@ module _ (shape : Shape) (v : ℕ) (place : Place) (w : AccessWidth) (x : ℕ) (
   first = place.first.0
 
   word_at : (register : BitRegister) → place.class ≡ Bits register → BitWordAt shape register v first s
-  word_at register e = bit_word shape v place w s at.state at.located register e (λ q. at.looked (simp e q))
+  word_at register e = bit_word_lem shape v place w s at.state at.located register e (λ q. at.looked (simp e q))
 
   run_at : (register : ByteRegister) → place.class ≡ Bytes register → BytesAt shape register v first (bytes w) s
   run_at register e = byte_run shape v place w s at.state at.located register e (λ q. at.looked (simp e q))
