@@ -23,7 +23,7 @@ use Rattle.state.specs.Layout.{DistributorControl}
 use Rattle.state.specs.Words.{kept_distributor_control, RecordThere, record_at, changed, enabled_at}
 use Rattle.service.specs.Service.{Sound}
 use Rattle.places.specs.Places.{sends, read_place_looks_up, write_place_looks_up, read_class, write_class, read_place, write_place, PlaceRead, PlaceWritten}
-use Rattle.places.proofs.Fits.{bit_word, byte_run}
+use Rattle.places.proofs.Fits.{bit_word_lem, byte_run}
 use Rattle.places.proofs.Sounds.{place_sound}
 use Rattle.distributor_frame.specs.DistributorFrame.{private_width, read_distributor_access, write_distributor_access, read_v2_distributor, write_v2_distributor}
 use Rattle.distributor_frame.proofs.Passed.{place_read, place_written}
@@ -77,7 +77,7 @@ module _ {shape : Shape} {wrap : List ℕ → List ℕ} (around : Around shape w
     read_class_lem at class.Iidr e = refl
     read_class_lem at class.Sgir e = refl
     read_class_lem at (class.Bits register) e =
-        bits_alike same register v place.first.0 (bit_word shape v place width s h.state at.located register e (λ q. at.looked (simp e q))).banked
+        bits_alike same register v place.first.0 (bit_word_lem shape v place width s h.state at.located register e (λ q. at.looked (simp e q))).banked
     read_class_lem at (class.Bytes register) e =
         bytes_alike same register v place.first.0 (bytes width) (byte_run shape v place width s h.state at.located register e (λ q. at.looked (simp e q))).there
     read_class_lem at class.Other e = refl
@@ -89,7 +89,7 @@ module _ {shape : Shape} {wrap : List ℕ → List ℕ} (around : Around shape w
       write_class_lem at class.Iidr e = none_passes s
       write_class_lem at class.Sgir e = if_through (sends value) (λ q. sgir_through around h.state.limits v value) s h.state
       write_class_lem at (class.Bits register) e =
-          bits_through around register v place.first.0 value (bit_word shape v place width s h.state at.located register e (λ q. at.looked (simp e q))).banked s h.state
+          bits_through around register v place.first.0 value (bit_word_lem shape v place width s h.state at.located register e (λ q. at.looked (simp e q))).banked s h.state
       write_class_lem at (class.Bytes register) e =
           bytes_through around h.state.limits register v place.first.0 (bytes width) value
           (byte_run shape v place width s h.state at.located register e (λ q. at.looked (simp e q))).there s h.state

@@ -21,7 +21,7 @@ use Rattle.state.proofs.Tests.{left_true, right_true}
 use Rattle.bits.specs.Bits.{field_bits, per_word, write_bits, BitWordAt}
 use Rattle.bits.proofs.Registers.{written, record_written, bits_others}
 use Rattle.places.specs.Places.{write_place_looks_up, Located}
-use Rattle.places.proofs.Fits.{private_word, bit_word}
+use Rattle.places.proofs.Fits.{private_word, bit_word_lem}
 use Rattle.waiting.specs.Waiting.{meets, is_class, among}
 use Rattle.waiting.proofs.Keeping.{is_class_lem, run_at, among_is}
 use Rattle.waiting.proofs.RecordMoves.{met, met_record}
@@ -79,4 +79,4 @@ module _ (shape : Shape) (register : BitRegister) (n : ℕ) (s : List ℕ) (h : 
   hit_found value q = own_private (rw hit_class at q)
 
   pub hit_word : BitWordAt shape register u place.first.0 s
-  hit_word = bit_word shape u place width s h located register hit_class own_private
+  hit_word = bit_word_lem shape u place width s h located register hit_class own_private

@@ -19,7 +19,7 @@ use Rattle.state.specs.Words.{RecordThere, record_at}
 use Rattle.select.specs.declared.Candidate.{Candidate}
 use Rattle.acknowledge.specs.Acknowledge.{source_of}
 use Rattle.places.specs.Places.{write_place, PlaceWritten}
-use Rattle.places.proofs.Fits.{bit_word}
+use Rattle.places.proofs.Fits.{bit_word_lem}
 use Rattle.input.specs.declared.Signal.{Signal}
 use Rattle.input.specs.declared.Signal.TheVariants.{Level, Edge}
 use Rattle.lawful.specs.Lawful.{Controls}
@@ -51,7 +51,7 @@ module _ (shape : Shape) (v n : ℕ) (there : RecordThere shape v n) (no_sgi : 1
       go : (b : Bool) → is_class (Bits Icpendr) place.class ≡ b → pends shape v n (write_place shape u place width value s) ≡ true
       go true is =
           let class = is_class_lem (Bits Icpendr) place.class is in
-          let word = bit_word shape u place width s at.state at.located Icpendr class (λ q. at.looked (simp class q)) in
+          let word = bit_word_lem shape u place width s at.state at.located Icpendr class (λ q. at.looked (simp class q)) in
           rw class (cleared_pends shape v n there no_sgi u place.first.0 value s word
           ∙ spared (meets v n u) (among n place.first.0 32) (eqb (field_at 1 (n - place.first.0) value) 1) (not (held (record_at shape v n s))) (pends shape v n s) (rw class at e) now)
       go false other =
