@@ -92,7 +92,8 @@ def main(verb=None, *names):
         sys.exit(f"crates: {lost[0]} is no crate of crates.txt" if lost else __doc__)
     if verb == "build":
         sys.exit(0 if build(names) else 1)
-    print("\n".join({"below": below, "words": words}[verb](names[0])))
+    for it in {"below": below, "words": words}[verb](names[0]):
+        print(it)
 
 
 if __name__ == "__main__":
