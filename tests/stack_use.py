@@ -10,7 +10,9 @@ computed, recursion, a function that is not in the archive, an instruction that 
 paths that meet at different distances. A computed jump has to be a switch, in a function that loads the address of constant data: its
 cases are read from its table where that is plain to see, and else what nothing else comes to is taken for them.
 """
+import os
 import re
+import shutil
 import subprocess
 import sys
 
@@ -19,15 +21,24 @@ class Unknown(Exception):
     pass
 
 
+def said(tool, *words, check=True):
+    """What a disassembler, a program and the name by which it is called, says."""
+    program, name = tool
+    return subprocess.run([name, *words], executable=program, capture_output=True, text=True, check=check)
+
+
 def tool(archive):
-    """The first disassembler here that reads the archive's code."""
-    for name in ("objdump", "llvm-objdump", "x86_64-linux-gnu-objdump", "aarch64-linux-gnu-objdump"):
+    """The first disassembler here that reads the archive's code: the kit's, which is its compiler by another name, or one of the machine's."""
+    rt = shutil.which("rt")
+    kit = rt and os.path.dirname(os.path.dirname(os.path.realpath(rt)))
+    found = [(f"{kit}/toolchain/bin/clang", "llvm-objdump")] if kit else []
+    for it in [*found, *((it, it) for it in ("objdump", "llvm-objdump", "x86_64-linux-gnu-objdump", "aarch64-linux-gnu-objdump"))]:
         try:
-            ran = subprocess.run([name, "-dr", "--no-show-raw-insn", archive], capture_output=True, text=True)
+            ran = said(it, "-dr", "--no-show-raw-insn", archive, check=False)
         except FileNotFoundError:
             continue
         if ran.returncode == 0 and ">:" in ran.stdout:
-            return name, ran.stdout
+            return it, ran.stdout
     raise Unknown(f"no objdump that reads {archive}")
 
 
@@ -58,7 +69,7 @@ def functions(listing):
 
 def tables(disassembler, archive):
     """What the words of constant data point to: {section: {place: (section, distance)}}."""
-    listing = subprocess.run([disassembler, "-r", archive], capture_output=True, text=True, check=True).stdout
+    listing = said(disassembler, "-r", archive).stdout
     found, section = {}, None
     for line in listing.splitlines():
         if m := re.match(r"RELOCATION RECORDS FOR \[(.+)\]:", line):
@@ -70,7 +81,7 @@ def tables(disassembler, archive):
 
 def contents(disassembler, archive):
     """The bytes of every section of constant data."""
-    listing = subprocess.run([disassembler, "-s", archive], capture_output=True, text=True, check=True).stdout
+    listing = said(disassembler, "-s", archive).stdout
     found, section = {}, None
     for line in listing.splitlines():
         if m := re.match(r"Contents of section (.+):$", line):
@@ -307,7 +318,7 @@ class Archive:
         self.known = {leaf: (0, (leaf,))}
 
     def exported(self):
-        listing = subprocess.run([self.disassembler, "-t", self.path], capture_output=True, text=True, check=True).stdout
+        listing = said(self.disassembler, "-t", self.path).stdout
         found = re.findall(r"^[0-9a-f]+ g\s+F \.text\S*\s+[0-9a-f]+ (\S+)$", listing, re.M)
         if not found:
             raise Unknown("no exported function")
