@@ -1,4 +1,4 @@
-// The C face of the public calls, over numbers and slices: `rt staticlib vgic` makes libvgic.a of it. include/vgic.h declares it.
+// The C face of the public calls, over numbers and slices: `rt lib` makes libvgic.a of it. include/vgic.h declares it.
 #![tactic(auto)]
 
 ghost use Rattle.std.specs.Prelude.{◌≡◌, List, ℕ};
