@@ -18,11 +18,11 @@ use Rattle.input.specs.Input.{signalled, device_input}
 use Rattle.lawful.specs.Lawful.{Controls}
 use Rattle.moves.specs.Moves as moves
 use Rattle.moves.proofs.Controllers.{changed_record}
-use Rattle.history.specs.History.{Call, called, sgir_write}
+use Rattle.history.specs.History.{Call, Pulse, called, sgir_write}
 use Rattle.waiting.specs.Waiting.{bit, rung, pends}
 use Rattle.waiting.proofs.Accepted.{input_call_lem}
 use Rattle.waiting.proofs.BitLaws.{bit_or_lem}
-use Rattle.stories.specs.Stories.{Rings, Pulses}
+use Rattle.stories.specs.Stories.{Rings, Pulses, by_pulse}
 use Rattle.stories.proofs.Calls.{ring_call, pulses_call, pulses_there, pulses_past}
 use Rattle.stories.proofs.Events.{rung_sources}
 
@@ -48,7 +48,7 @@ module _ (shape : Shape) (v n : ℕ) (s : List ℕ) (h : Controls shape s) (ther
       changes (Level asserted) = changed_record shape s h.lawful v n (moves.SetLevel asserted) (record { there = there; fits = no_sgi })
       changes Edge = changed_record shape s h.lawful v n moves.Pulse (record { there = there; fits = no_sgi })
 
--- a pulse, or a message that rings
+-- any call that pulses: a pulse, or a message that rings
 module _ (shape : Shape) (v n : ℕ) (c : Call) (pulses : Pulses shape v n c) where
   module _ (s : List ℕ) (h : Controls shape s) where
     pub pulsed_record : record_at shape v n (called c s).state ≡ record_of.pulse (record_at shape v n s)
@@ -56,6 +56,10 @@ module _ (shape : Shape) (v n : ℕ) (c : Call) (pulses : Pulses shape v n c) wh
         ap (λ (o : Outcome). record_at shape v n o.state) (pulses_call shape v n c pulses s h)
         ∙ changed_record shape s h.lawful v n moves.Pulse (record { there = pulses_there shape v n c pulses; fits = pulses_past shape v n c pulses })
 
-    pub a_pulse_is_pending : pends shape v n (called c s).state ≡ true
+    pub a_signal_is_pending : pends shape v n (called c s).state ≡ true
     unfolding record_of.pulse
-    a_pulse_is_pending = ap (λ (r : InterruptRecord). r.pending) pulsed_record
+    a_signal_is_pending = ap (λ (r : InterruptRecord). r.pending) pulsed_record
+
+module _ (shape : Shape) (v n : ℕ) (s : List ℕ) (h : Controls shape s) (there : RecordThere shape v n) (no_sgi : 16 ≤ n) where
+  pub a_pulse_is_pending : pends shape v n (called (Pulse v n) s).state ≡ true
+  a_pulse_is_pending = a_signal_is_pending shape v n (Pulse v n) (by_pulse there no_sgi) s h

@@ -34,7 +34,7 @@ use Rattle.message_frame.proofs.Messages.{message_call}
 use Rattle.message_frame.proofs.Windows.{rung_spi}
 use Rattle.lawful.specs.Lawful.{Controls}
 use Rattle.wake.specs.Wake.{is_spurious}
-use Rattle.history.specs.History.{Call, is_start, called, sgir_write, iar_read, eoir_write, dir_write}
+use Rattle.history.specs.History.{Call, Pulse, is_start, called, sgir_write, iar_read, eoir_write, dir_write}
 use Rattle.history.proofs.Each.{valid}
 use Rattle.waiting.specs.Waiting.{meets}
 use Rattle.waiting.proofs.Accepted.{input_call_lem, write_call_lem}
@@ -79,6 +79,9 @@ module _ (shape : Shape) (s : List ℕ) (h : Controls shape s) (v : ℕ) where
   pub ring_call : (value t : ℕ) → v < shape.count → includes (sgi_target (value % 2 ^ 32)) v t ≡ true → called (sgir_write v value) s ≡ went shape 1023 s (write_sgir shape v (value % 2 ^ 32) s)
   ring_call value t exists e = write_call_lem shape s h v 0xf00 Dword value (plain Sgir) sgir_at_lem (λ q. exists) ∙ simp (named (sgi_target (value % 2 ^ 32)) v t e)
 
+  pub pulse_call : (n : ℕ) → RecordThere shape v n → 16 ≤ n → called (Pulse v n) s ≡ went shape 1023 s (changed shape v n transition.pulse s)
+  pulse_call = input_call_lem shape s h v Edge
+
   -- who would be answered 1023 is quiet
   pub asleep_quiet : v < shape.count → (called (iar_read v) s).value ≡ 1023 → is_spurious (acknowledge-of.acknowledge shape v s) ≡ true
   asleep_quiet exists e = go (acknowledge-of.acknowledge shape v s) (rw (acknowledge_call exists) at e)
@@ -102,7 +105,7 @@ module _ (shape : Shape) (v n : ℕ) where
   pulses_act _ (by_message it inside is) = refl
 
   pub pulses_call : (c : Call) → Pulses shape v n c → (s : List ℕ) → Controls shape s → called c s ≡ went shape 1023 s (changed shape v n transition.pulse s)
-  pulses_call _ (by_pulse there past) s h = input_call_lem shape s h v Edge n there past
+  pulses_call _ (by_pulse there past) s h = pulse_call shape s h v n there past
   pulses_call _ (by_message {first} {count} {value} it inside is) s h =
       message_call shape s (valid shape s h) first count value it (rw is inside)
       ∙ ap (λ (r : List ℕ). went shape 1023 s r) (ap (λ (k : ℕ). changed shape 0 k transition.pulse s) is ∙ ap put_record (sym (met_slot v n 0 (spi_met spi))))

@@ -6,6 +6,7 @@ pub mod Events
 pub mod OnePulse
 pub mod PulseInFlight
 pub mod Retiring
+pub mod SignalInFlight
 pub mod Sources
 pub mod Steady
 pub mod Turns

@@ -1,5 +1,5 @@
 -- A pulse, or a message, is given to whoever next acknowledges and can take it, unless somebody took it before; and it wakes who slept. Assumes nothing.
-use mathlib.Core.Path.{◌≡◌, refl, ap, ◌∙◌}
+use mathlib.Core.Path.{◌≡◌, ap, ◌∙◌}
 use mathlib.Core.Bool.{true}
 use mathlib.Core.List.{List}
 use Prim.Native.Nat.{ℕ}
@@ -18,7 +18,7 @@ use Rattle.waiting.proofs.Pends.{a_pulse_waits, pulse_controls}
 use Rattle.waiting.proofs.RecordMoves.{met_record}
 use Rattle.stories.specs.Stories as story
 use Rattle.stories.specs.Stories.{Pulses, OnePulse, Untaken, SleptBefore, PulseGiven}
-use Rattle.stories.proofs.Begins.{a_pulse_is_pending}
+use Rattle.stories.proofs.Begins.{a_signal_is_pending}
 use Rattle.stories.proofs.Calls.{pulses_past, pulses_there, pulses_act, pulses_call, asleep_quiet}
 use Rattle.stories.proofs.Turns.{is_number, number_given, wake_bit_lem}
 
@@ -36,7 +36,7 @@ module _ (shape : Shape) (v u n : ℕ) (met : meets v n u ≡ true) where
       rw call
       (wake_bit_lem shape u s (changed shape v n record_of.pulse s) slept.exists (asleep_quiet shape s h u slept.exists slept.asleep)
       (rw state at
-      (is_number shape u n (called c s).state after slept.exists (pulses_there shape v n c pulses).numbered slept.takes (pending_at (called c s).state (a_pulse_is_pending shape v n c pulses s h)))))
+      (is_number shape u n (called c s).state after slept.exists (pulses_there shape v n c pulses).numbered slept.takes (pending_at (called c s).state (a_signal_is_pending shape v n c pulses s h)))))
 
 module _ (h : OnePulse) (z : Untaken h) where
   abbrev shape : Shape
@@ -54,7 +54,7 @@ module _ (h : OnePulse) (z : Untaken h) where
   waits : pends shape v n (story.one_turn h) ≡ true
   waits =
       a_pulse_waits shape v n (pulses_there shape v n h.call z.pulses) (pulses_past shape v n h.call z.pulses) h.meanwhile (story.one_pulsed h).state controls₁
-      (a_pulse_is_pending shape v n h.call z.pulses h.words z.controls) z.untaken
+      (a_signal_is_pending shape v n h.call z.pulses h.words z.controls) z.untaken
 
   gives : story.one_read h ≡ gave n (given shape h.reader (candidate_for shape h.reader (story.one_turn h) n) (story.one_turn h))
   gives =

@@ -1,6 +1,6 @@
 -- Two messages for two SPIs of one window are both given, in whichever order they are written and taken. Assumes nothing.
 use mathlib.Core.Path.{◌≡◌, refl, sym, ap, ◌∙◌}
-use mathlib.Core.Bool.{true, false, and-false}
+use mathlib.Core.Bool.{true, and-false}
 use mathlib.Core.List.{List}
 use mathlib.Core.Logic.{◌⊎◌, inl, inr}
 use Prim.Native.Nat.{ℕ, ◌≤◌, ◌<◌}
@@ -10,7 +10,6 @@ use Rattle.interrupt.specs.declared.record.InterruptRecord.{InterruptRecord}
 use Rattle.register.specs.declared.frame.AccessWidth.TheVariants.{Dword}
 use Rattle.register.proofs.Named.{iar_at}
 use Rattle.state.specs.declared.layout.Shape.{Shape}
-use Rattle.state.specs.Words.{record_at}
 use Rattle.select.specs.Select.{candidate_for}
 use Rattle.acknowledge.specs.Acknowledge.{given}
 use Rattle.answer.specs.Answer.{Outcome, gave}
@@ -25,7 +24,7 @@ use Rattle.waiting.proofs.Pends.{pending_stays, a_pulse_waits, pulse_controls}
 use Rattle.waiting.proofs.RecordMoves.{met_record}
 use Rattle.stories.specs.Stories as story
 use Rattle.stories.specs.Stories.{Takes, NoneAhead, Pulses, by_message, TwoMessages, MessagesWritten, BothRung}
-use Rattle.stories.proofs.Begins.{a_pulse_is_pending}
+use Rattle.stories.proofs.Begins.{a_signal_is_pending}
 use Rattle.stories.proofs.OnePulse.{a_pulse_wakes}
 use Rattle.stories.proofs.Calls.{pulses_call}
 use Rattle.stories.proofs.Turns.{number_given}
@@ -101,7 +100,7 @@ module _ (h : TwoMessages) (z : MessagesWritten h) where
   controls₂ = pulse_controls shape 0 h.one h.meanwhile₁ (story.one_written h).state controls₁ z.one_untaken₁
 
   one_waits_lem : pends shape 0 h.one (story.before_other h) ≡ true
-  one_waits_lem = waits shape h.one one_spi h.meanwhile₁ (story.one_written h).state controls₁ (a_pulse_is_pending shape 0 h.one one_call (one_pulses 0) h.words z.controls) z.one_untaken₁
+  one_waits_lem = waits shape h.one one_spi h.meanwhile₁ (story.one_written h).state controls₁ (a_signal_is_pending shape 0 h.one one_call (one_pulses 0) h.words z.controls) z.one_untaken₁
 
   -- the second, and until the first read
   controls₃ : Controls shape (story.other_written h).state
@@ -117,7 +116,7 @@ module _ (h : TwoMessages) (z : MessagesWritten h) where
 
   other_waits : pends shape 0 h.other (story.messages_wait h) ≡ true
   other_waits =
-      waits shape h.other other_spi h.meanwhile₂ (story.other_written h).state controls₃ (a_pulse_is_pending shape 0 h.other other_call (other_pulses 0) (story.before_other h) controls₂) z.other_untaken₂
+      waits shape h.other other_spi h.meanwhile₂ (story.other_written h).state controls₃ (a_signal_is_pending shape 0 h.other other_call (other_pulses 0) (story.before_other h) controls₂) z.other_untaken₂
 
   two : Two shape (story.messages_wait h) h.sooner h.later
   two =

@@ -166,21 +166,13 @@ pub record BothGiven (h : TwoRings) : Type 0 where
   pub second_given : (second_read h).value ≡ h.sgi + 1024 * higher h.one h.other
   pub none_left : sources_at h.shape h.target h.sgi (second_read h).state ≡ 0
 
--- a call by which a device pulses the PPI or SPI n, as v meets it: a pulse, or a message for it in a window of this controller's (document 02, Seven:
--- "Writing a number inside the window pulses that SPI")
-pub data Pulses (shape : Shape) (v n : ℕ) : Call → Type 0 where
-  by_pulse : RecordThere shape v n → 16 ≤ n → Pulses shape v n (Pulse v n)
-  by_message : {first count value : ℕ} → is_window shape first count ≡ true → in_window (window_of first count) n ≡ true → value % 2 ^ 32 ≡ n
-      → Pulses shape v n (setspi_write first count value)
-
--- A device pulses an interrupt that is in flight, by this call. A write of a vCPU's, to EOIR or DIR, retires it; then a vCPU acknowledges. `vcpu` is
--- whose the interrupt is, if it is a PPI.
+-- A device pulses an interrupt that is in flight. A write of a vCPU's, to EOIR or DIR, retires it; then a vCPU acknowledges. `vcpu` is whose the
+-- interrupt is, if it is a PPI.
 pub record PulseInFlight : Type 0 where
   pub shape : Shape
   pub words : List ℕ
   pub vcpu : ℕ
   pub interrupt : ℕ
-  pub call : Call
   pub meanwhile₁ : List Call
   pub retirer : ℕ
   pub offset : ℕ
@@ -190,7 +182,7 @@ pub record PulseInFlight : Type 0 where
   pub reader : ℕ
 
 abbrev pub pulsed : PulseInFlight → Outcome
-pulsed h = called h.call h.words
+pulsed h = called (Pulse h.vcpu h.interrupt) h.words
 
 abbrev pub retires : PulseInFlight → Outcome
 retires h = called (WriteCpuInterface h.retirer h.offset h.width h.writes) (run h.meanwhile₁ (pulsed h).state)
@@ -204,7 +196,8 @@ read_again h = called (iar_read h.reader) (turn h)
 -- nobody takes it in the meantime (`takes_pending`), and when the reader acknowledges it can take it and nothing goes before it
 pub record InService (h : PulseInFlight) : Type 0 where
   pub controls : Controls h.shape h.words
-  pub pulses : Pulses h.shape h.vcpu h.interrupt h.call
+  pub there : RecordThere h.shape h.vcpu h.interrupt
+  pub no_sgi : 16 ≤ h.interrupt
   pub in_flight : (record_at h.shape h.vcpu h.interrupt h.words).inflight ≡ true
   pub its_retirer : meets h.vcpu h.interrupt h.retirer ≡ true
   pub retired : (retires h).retired ≡ h.interrupt
@@ -224,6 +217,65 @@ pub record GivenAgain (h : PulseInFlight) : Type 0 where
   pub not_in_flight : (record_at h.shape h.vcpu h.interrupt (retires h).state).inflight ≡ false
   pub read_accepted : (read_again h).refusal ≡ 0
   pub given_again : (read_again h).value ≡ h.interrupt
+
+-- a call by which a device pulses the PPI or SPI n, as v meets it: a pulse, or a message for it in a window of this controller's (document 02, Seven:
+-- "Writing a number inside the window pulses that SPI")
+pub data Pulses (shape : Shape) (v n : ℕ) : Call → Type 0 where
+  by_pulse : RecordThere shape v n → 16 ≤ n → Pulses shape v n (Pulse v n)
+  by_message : {first count value : ℕ} → is_window shape first count ≡ true → in_window (window_of first count) n ≡ true → value % 2 ^ 32 ≡ n
+      → Pulses shape v n (setspi_write first count value)
+
+-- The same by any such call: a device pulses an interrupt that is in flight, by this call. A write of a vCPU's, to EOIR or DIR, retires it; then a vCPU
+-- acknowledges. `vcpu` is whose the interrupt is, if it is a PPI.
+pub record SignalInFlight : Type 0 where
+  pub shape : Shape
+  pub words : List ℕ
+  pub vcpu : ℕ
+  pub interrupt : ℕ
+  pub call : Call
+  pub meanwhile₁ : List Call
+  pub retirer : ℕ
+  pub offset : ℕ
+  pub width : AccessWidth
+  pub writes : ℕ
+  pub meanwhile₂ : List Call
+  pub reader : ℕ
+
+abbrev pub signal_sent : SignalInFlight → Outcome
+signal_sent h = called h.call h.words
+
+abbrev pub signal_retires : SignalInFlight → Outcome
+signal_retires h = called (WriteCpuInterface h.retirer h.offset h.width h.writes) (run h.meanwhile₁ (signal_sent h).state)
+
+abbrev pub signal_turn : SignalInFlight → List ℕ
+signal_turn h = run h.meanwhile₂ (signal_retires h).state
+
+abbrev pub signal_read_again : SignalInFlight → Outcome
+signal_read_again h = called (iar_read h.reader) (signal_turn h)
+
+-- nobody takes it in the meantime (`takes_pending`), and when the reader acknowledges it can take it and nothing goes before it
+pub record SignalInService (h : SignalInFlight) : Type 0 where
+  pub controls : Controls h.shape h.words
+  pub pulses : Pulses h.shape h.vcpu h.interrupt h.call
+  pub in_flight : (record_at h.shape h.vcpu h.interrupt h.words).inflight ≡ true
+  pub its_retirer : meets h.vcpu h.interrupt h.retirer ≡ true
+  pub retired : (signal_retires h).retired ≡ h.interrupt
+  pub untaken₁ : never (takes_pending h.shape h.vcpu h.interrupt) h.meanwhile₁ (signal_sent h).state ≡ true
+  pub untaken₂ : never (takes_pending h.shape h.vcpu h.interrupt) h.meanwhile₂ (signal_retires h).state ≡ true
+  pub reader_exists : h.reader < h.shape.count
+  pub its_reader : meets h.vcpu h.interrupt h.reader ≡ true
+  pub takes : Takes h.shape h.reader h.interrupt (signal_turn h)
+  pub none_ahead : NoneAhead h.shape h.reader h.interrupt (signal_turn h)
+
+-- the pulse is noted; once retired the interrupt is no longer served and waits; and it is given again
+pub record SignalGivenAgain (h : SignalInFlight) : Type 0 where
+  pub signal_accepted : (signal_sent h).refusal ≡ 0
+  pub noted : (record_at h.shape h.vcpu h.interrupt (signal_sent h).state).redelivery_pending ≡ true
+  pub waits : (record_at h.shape h.vcpu h.interrupt (signal_retires h).state).pending ≡ true
+  pub idle : (record_at h.shape h.vcpu h.interrupt (signal_retires h).state).active ≡ false
+  pub not_in_flight : (record_at h.shape h.vcpu h.interrupt (signal_retires h).state).inflight ≡ false
+  pub read_accepted : (signal_read_again h).refusal ≡ 0
+  pub given_again : (signal_read_again h).value ≡ h.interrupt
 
 -- A device pulses an interrupt, by this call, whether it is in flight or not; then a vCPU acknowledges.
 pub record OnePulse : Type 0 where

@@ -23,12 +23,12 @@ use Rattle.state.specs.declared.layout.InterfaceValue.TheVariants.{PriorityMask}
 use Rattle.state.specs.Words.{record_at, interface_at}
 use Rattle.answer.specs.Answer.{Outcome, gave}
 use Rattle.lawful.specs.Lawful.{Controls}
-use Rattle.history.specs.History.{Call, Setup, ReadDistributor, Pulse, called, run, no_start, iar_read, eoir_write, setspi_write}
+use Rattle.history.specs.History.{Call, Setup, ReadDistributor, called, run, no_start, iar_read, eoir_write, setspi_write}
 use Rattle.history.proofs.Always.{a_fresh_controller, same_controller}
-use Rattle.waiting.specs.Waiting.{bit, takes_pending, never}
+use Rattle.waiting.specs.Waiting.{bit}
 use Rattle.corners.specs.Corners.{zeros}
 use Rattle.corners.proofs.Started.{started, setup_started, computing}
-use Rattle.stories.specs.Stories.{Takes, ahead, NoneAhead, TwoRings, both_wait, first_read, one_waits, second_read, Sleeping, Pulses, by_pulse, by_message, PulseInFlight, pulsed, retires, turn, read_again, InService, OnePulse, one_turn, one_read, Untaken, TwoMessages, one_written, messages_wait, sooner_read, later_waits, later_read, MessagesWritten}
+use Rattle.stories.specs.Stories.{Takes, ahead, NoneAhead, TwoRings, both_wait, first_read, one_waits, second_read, Sleeping, by_message, PulseInFlight, turn, read_again, InService, SignalInFlight, signal_turn, signal_read_again, SignalInService, OnePulse, one_turn, one_read, Untaken, TwoMessages, one_written, messages_wait, sooner_read, later_waits, later_read, MessagesWritten}
 use Rattle.handlers.specs.Handlers.{Handler, next_read, running_read, later, Runs, Foremost}
 use Rattle.handlers.proofs.Shielded.{a_handler_is_shielded}
 use Rattle.held_lines.specs.HeldLines.{HeldLine, line_waits, line_retires, line_waits_again, Holding, Retirement}
@@ -37,7 +37,8 @@ use Rattle.stories.proofs.OnePulse.{a_pulse_is_given}
 use Rattle.stories.proofs.TwoMessages.{both_rung}
 use Rattle.stories.proofs.TwoRings.{both_given}
 use Rattle.stories.proofs.PulseInFlight.{given_again}
-use Rattle.story_examples.specs.Examples.{lent, after_calls, before_rings, two_rings_from, rings_example, before_pulse, pulse_in_flight_from, pulse_example, message_example, before_messages, two_messages_from, two_messages_example, one_message_from, one_message_example, before_handler, neighbour_rings, urgent_rings, handler_from, handler_example, before_line, held_line_from, held_line_example}
+use Rattle.stories.proofs.SignalInFlight.{signal_given_again}
+use Rattle.story_examples.specs.Examples.{lent, after_calls, before_rings, two_rings_from, rings_example, before_pulse, pulse_in_flight_from, pulse_example, signal_in_flight_from, message_example, before_messages, two_messages_from, two_messages_example, one_message_from, one_message_example, before_handler, neighbour_rings, urgent_rings, handler_from, handler_example, before_line, held_line_from, held_line_example}
 
 -- the words after a setup and calls, from the state that setup leaves built once
 module _ (count limit : ℕ) (cs : List Call) where
@@ -155,57 +156,83 @@ second_read_lem = (both_given rings_example sleeping).second_given
 abbrev in_service : List ℕ
 in_service = begun 1 34 before_pulse
 
+abbrev pulses : PulseInFlight
+pulses = pulse_in_flight_from in_service
+
 pulses_controls : Controls (shaped 1 34) in_service
 unfolding zeros before_pulse
 pulses_controls = controls 1 34 before_pulse refl refl refl
 
--- by either call the same is computed
-module _ (call : Call) (pulses : Pulses (shaped 1 34) 0 33 call) where
-  abbrev it : PulseInFlight
-  it = pulse_in_flight_from call in_service
-
-  served_by : (record_at (shaped 1 34) 0 33 in_service).inflight ≡ true → (retires it).retired ≡ 33 → never (takes_pending (shaped 1 34) 0 33) it.meanwhile₁ (pulsed it).state ≡ true
-      → never (takes_pending (shaped 1 34) 0 33) it.meanwhile₂ (retires it).state ≡ true → can_take (shaped 1 34) 0 33 (turn it) ≡ true → tested (shaped 1 34) 0 33 (turn it) ≡ true → InService it
-  unfolding pulse_in_flight_from
-  served_by in_flight retired untaken₁ untaken₂ takes first = record {
-    controls = pulses_controls;
-    pulses = pulses;
-    in_flight = in_flight;
-    its_retirer = refl;
-    retired = retired;
-    untaken₁ = untaken₁;
-    untaken₂ = untaken₂;
-    reader_exists = omega arith;
-    its_reader = refl;
-    takes = can_take_lem (shaped 1 34) 0 33 (turn it) takes;
-    none_ahead = none_ahead (shaped 1 34) 0 33 (turn it) first;
-  }
-
-pulse_served : InService (pulse_in_flight_from (Pulse 0 33) in_service)
+pulses_takes : Takes (shaped 1 34) 0 33 (turn pulses)
 unfolding run zeros before_pulse pulse_in_flight_from computing
-pulse_served = served_by (Pulse 0 33) (by_pulse (record { numbered = omega arith; banked = λ e. omega (arith, e) }) (omega arith)) refl refl refl refl refl refl
+pulses_takes = can_take_lem (shaped 1 34) 0 33 (turn pulses) refl
 
-message_served : InService (pulse_in_flight_from (setspi_write 32 2 33) in_service)
+its_turn : tested (shaped 1 34) 0 33 (turn pulses) ≡ true
 unfolding run zeros before_pulse pulse_in_flight_from computing
-message_served = served_by (setspi_write 32 2 33) (by_message refl refl refl) refl refl refl refl refl refl
+its_turn = refl
+
+pulses_served : InService pulses
+unfolding run zeros before_pulse pulse_in_flight_from computing
+pulses_served = record {
+  controls = pulses_controls;
+  there = record { numbered = omega arith; banked = λ e. omega (arith, e) };
+  no_sgi = omega arith;
+  in_flight = refl;
+  its_retirer = refl;
+  retired = refl;
+  untaken₁ = refl;
+  untaken₂ = refl;
+  reader_exists = omega arith;
+  its_reader = refl;
+  takes = pulses_takes;
+  none_ahead = none_ahead (shaped 1 34) 0 33 (turn pulses) its_turn;
+}
 
 served_words : in_service ≡ after_calls 1 34 before_pulse
 unfolding zeros
 served_words = same_words 1 34 before_pulse refl refl
 
 pub served : InService pulse_example
-served = subst (λ (s : List ℕ). InService (pulse_in_flight_from (Pulse 0 33) s)) served_words pulse_served
-
-pub served_messages : InService message_example
-served_messages = subst (λ (s : List ℕ). InService (pulse_in_flight_from (setspi_write 32 2 33) s)) served_words message_served
+served = subst (λ (s : List ℕ). InService (pulse_in_flight_from s)) served_words pulses_served
 
 pub read_again_lem : (read_again pulse_example).value ≡ 33
 unfolding pulse_in_flight_from
 read_again_lem = (given_again pulse_example served).given_again
 
-pub message_read_again : (read_again message_example).value ≡ 33
-unfolding pulse_in_flight_from
-message_read_again = (given_again message_example served_messages).given_again
+-- a message in flight
+abbrev signals : SignalInFlight
+signals = signal_in_flight_from (setspi_write 32 2 33) in_service
+
+signals_takes : Takes (shaped 1 34) 0 33 (signal_turn signals)
+unfolding run zeros before_pulse signal_in_flight_from computing
+signals_takes = can_take_lem (shaped 1 34) 0 33 (signal_turn signals) refl
+
+signals_turn : tested (shaped 1 34) 0 33 (signal_turn signals) ≡ true
+unfolding run zeros before_pulse signal_in_flight_from computing
+signals_turn = refl
+
+message_served : SignalInService signals
+unfolding run zeros before_pulse signal_in_flight_from computing
+message_served = record {
+  controls = pulses_controls;
+  pulses = by_message refl refl refl;
+  in_flight = refl;
+  its_retirer = refl;
+  retired = refl;
+  untaken₁ = refl;
+  untaken₂ = refl;
+  reader_exists = omega arith;
+  its_reader = refl;
+  takes = signals_takes;
+  none_ahead = none_ahead (shaped 1 34) 0 33 (signal_turn signals) signals_turn;
+}
+
+pub served_messages : SignalInService message_example
+served_messages = subst (λ (s : List ℕ). SignalInService (signal_in_flight_from (setspi_write 32 2 33) s)) served_words message_served
+
+pub message_read_again : (signal_read_again message_example).value ≡ 33
+unfolding signal_in_flight_from
+message_read_again = (signal_given_again message_example served_messages).given_again
 
 -- two messages
 abbrev card_words : List ℕ

@@ -6,7 +6,7 @@ use Rattle.state.specs.Layout.{size}
 use Rattle.state.specs.Lent.{shaped}
 use Rattle.history.specs.History.{Call, Setup, ReadDistributor, WriteDistributor, ReadCpuInterface, WriteCpuInterface, Pulse, ReadV2m, run, sgir_write, iar_read, setspi_write}
 use Rattle.corners.specs.Corners.{zeros}
-use Rattle.stories.specs.Stories.{TwoRings, PulseInFlight, OnePulse, TwoMessages}
+use Rattle.stories.specs.Stories.{TwoRings, PulseInFlight, SignalInFlight, OnePulse, TwoMessages}
 use Rattle.handlers.specs.Handlers.{Handler}
 use Rattle.held_lines.specs.HeldLines.{HeldLine}
 
@@ -64,10 +64,28 @@ before_pulse =
     ∷ iar_read 0
     ∷ []
 
--- SPI 33 is pulsed again, by whatever call. vCPU 0, which still serves it, acknowledges in vain and rings SGI 5 at itself; it writes 33 to EOIR; it reads
--- ISPENDR.
-unfoldable pub pulse_in_flight_from : Call → List ℕ → PulseInFlight
-pulse_in_flight_from call s = record {
+-- SPI 33 is pulsed again. vCPU 0, which still serves it, acknowledges in vain and rings SGI 5 at itself; it writes 33 to EOIR; it reads ISPENDR.
+unfoldable pub pulse_in_flight_from : List ℕ → PulseInFlight
+pulse_in_flight_from s = record {
+  shape = shaped 1 34;
+  words = s;
+  vcpu = 0;
+  interrupt = 33;
+  meanwhile₁ = iar_read 0 ∷ sgir_write 0 0x02000005 ∷ [];
+  retirer = 0;
+  offset = 0x10;
+  width = Dword;
+  writes = 33;
+  meanwhile₂ = ReadDistributor 0 0x204 Dword ∷ [];
+  reader = 0;
+}
+
+abbrev pub pulse_example : PulseInFlight
+pulse_example = pulse_in_flight_from (after_calls 1 34 before_pulse)
+
+-- The same, by whatever call pulses it.
+unfoldable pub signal_in_flight_from : Call → List ℕ → SignalInFlight
+signal_in_flight_from call s = record {
   shape = shaped 1 34;
   words = s;
   vcpu = 0;
@@ -82,12 +100,9 @@ pulse_in_flight_from call s = record {
   reader = 0;
 }
 
--- by a device's pulse; and by a card's message, in the window of the SPIs 32 and 33
-abbrev pub pulse_example : PulseInFlight
-pulse_example = pulse_in_flight_from (Pulse 0 33) (after_calls 1 34 before_pulse)
-
-abbrev pub message_example : PulseInFlight
-message_example = pulse_in_flight_from (setspi_write 32 2 33) (after_calls 1 34 before_pulse)
+-- by a card's message, in the window of the SPIs 32 and 33
+abbrev pub message_example : SignalInFlight
+message_example = signal_in_flight_from (setspi_write 32 2 33) (after_calls 1 34 before_pulse)
 
 -- Two messages. Before them all is turned on; SPIs 33 and 34 are made edge, vCPU 1's and enabled.
 unfoldable pub before_messages : List Call
