@@ -214,7 +214,7 @@ impl InterruptRecord {
         self
     }
 
-    // The compiler's rules store to no field that is an enum: here the record is written anew, in `set_owner` a law of `walks` stores it.
+    // The record written anew, with another trigger, mask and owner.
     fn with(self, trigger: TriggerMode, cpu_target_mask: CpuTargetMask, owner: Owner) -> Self
         ensures { result ≡ with_trigger trigger (with_mask cpu_target_mask (with_owner owner self)) }
     {
@@ -324,7 +324,7 @@ impl InterruptRecord {
     }
 }
 
-// `set_level` and `pulse` on a record of the function's own: whoever calls these lends nothing, and is proved without a walk.
+// `set_level` and `pulse` on a record of the function's own: whoever calls these lends nothing.
 pub fn after_level(mut record: InterruptRecord, asserted: bool) -> InterruptRecord
     ensures { result ≡ set_level «record» asserted }
 {
