@@ -33,6 +33,7 @@ fn served_here(record: InterruptRecord, vcpu: GicVcpuId) -> bool
     record.inflight & owned_by(owner, vcpu)
 }
 
+#[tactic(auto, unfolding(crate::specs::End::retire))]
 fn retire(mut record: InterruptRecord) -> InterruptRecord
     ensures { result ≡ retire «record» }
 {
@@ -41,6 +42,7 @@ fn retire(mut record: InterruptRecord) -> InterruptRecord
 }
 
 // The number that is retired, if one is.
+#[tactic(auto, unfolding(crate::specs::End::deactivated, crate::specs::End::retired))]
 fn deactivate_interrupt(words: &mut [u32], shape: Shape, vcpu: GicVcpuId, intid: IntId) -> IntId
     requires { (Room shape words.old) × (vcpu.0 < shape.count) }
     ensures { (result.0 ≡ retired shape vcpu.0 intid.0 words.old) × (words.new ≡ deactivated shape vcpu.0 intid.0 words.old) }
@@ -78,6 +80,7 @@ fn v2_eoi_mode(words: &[u32], shape: Shape, vcpu: GicVcpuId) -> bool
     interface_value(words, shape, vcpu, InterfaceValue::Control) / 512 % 2 == 1
 }
 
+#[tactic(auto, unfolding(crate::specs::End::ended, crate::specs::End::end_retired))]
 fn end_interrupt(words: &mut [u32], shape: Shape, vcpu: GicVcpuId, intid: IntId) -> IntId
     requires { Served shape vcpu.0 words.old }
     ensures { (result.0 ≡ end_retired shape vcpu.0 intid.0 words.old) × (words.new ≡ ended shape vcpu.0 intid.0 words.old) }

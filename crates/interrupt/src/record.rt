@@ -43,6 +43,7 @@ pub struct Synchronized {
 }
 
 impl InterruptRecord {
+    #[tactic(auto, unfolding(crate::specs::Record::new_record))]
     pub fn new(intid: IntId, trigger: TriggerMode) -> Self
         ensures { result ≡ new_record intid trigger }
     {
@@ -61,12 +62,14 @@ impl InterruptRecord {
     }
 
     // What an interrupt has at setup.
+    #[tactic(auto, unfolding(crate::specs::Record::starting_record))]
     pub fn starting(intid: IntId) -> Self
         ensures { result ≡ starting_record intid }
     {
         Self::new(intid, TriggerMode::starting(intid))
     }
 
+    #[tactic(auto, unfolding(crate::specs::Record::set_enabled))]
     pub fn set_enabled(mut self, enabled: bool) -> Self
         ensures { result ≡ set_enabled self enabled }
     {
@@ -77,6 +80,7 @@ impl InterruptRecord {
         self
     }
 
+    #[tactic(auto, unfolding(crate::specs::Record::set_pending, crate::specs::Record::held))]
     pub fn set_pending(mut self, pending: bool) -> Self
         ensures { result ≡ set_pending self pending }
     {
@@ -90,6 +94,7 @@ impl InterruptRecord {
         self
     }
 
+    #[tactic(auto, unfolding(crate::specs::Record::set_active))]
     pub fn set_active(mut self, active: bool) -> Self
         ensures { result ≡ set_active self active }
     {
@@ -97,6 +102,7 @@ impl InterruptRecord {
         self
     }
 
+    #[tactic(auto, unfolding(crate::specs::Record::state_of))]
     pub fn state(self) -> InterruptState
         ensures { result ≡ state_of self }
     {
@@ -113,6 +119,7 @@ impl InterruptRecord {
         }
     }
 
+    #[tactic(auto, unfolding(crate::specs::Record::set_state))]
     pub fn set_state(mut self, state: InterruptState) -> Self
         ensures { result ≡ set_state self state }
     {
@@ -121,12 +128,14 @@ impl InterruptRecord {
         self
     }
 
+    #[tactic(auto, unfolding(crate::specs::Record::has_delivery_state))]
     pub fn has_delivery_state(self) -> bool
         ensures { result ≡ has_delivery_state self }
     {
         self.pending | self.active | self.inflight | self.redelivery_pending
     }
 
+    #[tactic(auto, unfolding(crate::specs::Record::clear_delivery_state))]
     pub fn clear_delivery_state(mut self) -> Self
         ensures { result ≡ clear_delivery_state self }
     {
@@ -138,6 +147,7 @@ impl InterruptRecord {
         self
     }
 
+    #[tactic(auto, unfolding(crate::specs::Record::mark_inflight))]
     pub fn mark_inflight(mut self) -> Self
         ensures { result ≡ mark_inflight self }
     {
@@ -145,6 +155,7 @@ impl InterruptRecord {
         self
     }
 
+    #[tactic(auto, unfolding(crate::specs::Record::synchronize_inflight, crate::specs::Record::set_state, crate::specs::Record::state_of, crate::specs::Record::note_merged, crate::specs::Record::note_spent))]
     pub fn synchronize_inflight(self, state: InterruptState) -> Synchronized
         ensures { result ≡ synchronize_inflight self state }
     {
@@ -158,6 +169,7 @@ impl InterruptRecord {
         Synchronized { after, merged }
     }
 
+    #[tactic(auto, unfolding(crate::specs::Record::cancel_inflight))]
     pub fn cancel_inflight(mut self) -> Self
         ensures { result ≡ cancel_inflight self }
     {
@@ -168,6 +180,7 @@ impl InterruptRecord {
     }
 
     // A level interrupt with its line asserted.
+    #[tactic(auto, unfolding(crate::specs::Record::held))]
     fn held(self) -> bool
         ensures { result ≡ held self }
     {
@@ -175,12 +188,14 @@ impl InterruptRecord {
         trigger.is_level() & self.line_asserted
     }
 
+    #[tactic(auto, unfolding(crate::specs::Record::finish_inflight, crate::specs::Record::deactivate_inflight))]
     pub fn finish_inflight(self) -> Self
         ensures { result ≡ finish_inflight self }
     {
         self.deactivate_inflight(false)
     }
 
+    #[tactic(auto, unfolding(crate::specs::Record::deactivate_inflight, crate::specs::Record::held))]
     pub fn deactivate_inflight(mut self, pending_in_delivery: bool) -> Self
         ensures { result ≡ deactivate_inflight self pending_in_delivery }
     {
@@ -191,6 +206,7 @@ impl InterruptRecord {
         self
     }
 
+    #[tactic(auto, unfolding(crate::specs::Record::set_priority))]
     pub fn set_priority(mut self, priority: Priority) -> Self
         ensures { result ≡ set_priority self priority }
     {
@@ -198,7 +214,7 @@ impl InterruptRecord {
         self
     }
 
-    // The compiler's rules store to no field that is an enum: here the record is written anew, in `set_owner` a law of `walks` stores it.
+    // The record written anew, with another trigger, mask and owner.
     fn with(self, trigger: TriggerMode, cpu_target_mask: CpuTargetMask, owner: Owner) -> Self
         ensures { result ≡ with_trigger trigger (with_mask cpu_target_mask (with_owner owner self)) }
     {
@@ -217,6 +233,7 @@ impl InterruptRecord {
         }
     }
 
+    #[tactic(auto, unfolding(crate::specs::Record::set_trigger))]
     pub fn set_trigger(self, trigger: TriggerMode) -> Self
         ensures { result ≡ set_trigger self trigger }
     {
@@ -225,6 +242,7 @@ impl InterruptRecord {
         self.with(trigger, cpu_target_mask, owner)
     }
 
+    #[tactic(auto, unfolding(crate::specs::Record::set_cpu_target_mask))]
     pub fn set_cpu_target_mask(self, mask: u8) -> Self
         ensures { result ≡ set_cpu_target_mask self mask }
     {
@@ -233,6 +251,7 @@ impl InterruptRecord {
         self.with(trigger, CpuTargetMask::Mask(mask), owner)
     }
 
+    #[tactic(auto, unfolding(crate::specs::Record::set_owner))]
     pub fn set_owner(mut self, owner: Owner) -> Self
         ensures { result ≡ set_owner self owner }
     {
@@ -241,6 +260,7 @@ impl InterruptRecord {
     }
 
     // `set_level` by value.
+    #[tactic(auto, unfolding(crate::specs::Record::set_level))]
     fn leveled(mut self, asserted: bool) -> Self
         ensures { result ≡ set_level self asserted }
     {
@@ -261,6 +281,7 @@ impl InterruptRecord {
     }
 
     // `pulse` by value.
+    #[tactic(auto, unfolding(crate::specs::Record::pulse))]
     fn pulsed(mut self) -> Self
         ensures { result ≡ pulse self }
     {
@@ -284,6 +305,7 @@ impl InterruptRecord {
         *self = (*self).pulsed();
     }
 
+    #[tactic(auto, unfolding(crate::specs::Record::complete, crate::specs::Record::held))]
     pub fn complete(mut self) -> Self
         ensures { result ≡ complete self }
     {
@@ -294,6 +316,7 @@ impl InterruptRecord {
         self
     }
 
+    #[tactic(auto, unfolding(crate::specs::Record::deliverable))]
     pub fn deliverable(self) -> bool
         ensures { result ≡ deliverable self }
     {
@@ -301,7 +324,7 @@ impl InterruptRecord {
     }
 }
 
-// `set_level` and `pulse` on a record of the function's own: whoever calls these lends nothing, and is proved without a walk.
+// `set_level` and `pulse` on a record of the function's own: whoever calls these lends nothing.
 pub fn after_level(mut record: InterruptRecord, asserted: bool) -> InterruptRecord
     ensures { result ≡ set_level «record» asserted }
 {

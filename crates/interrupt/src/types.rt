@@ -40,6 +40,7 @@ impl IntId {
     pub const SPURIOUS: Self = Self(1023);
 
     // 1020 to 1023 are no interrupts.
+    #[tactic(auto, unfolding(crate::specs::Types::decoded))]
     pub fn new(raw: u32) -> DecodedIntId
         ensures { result ≡ decoded raw }
     {
@@ -88,6 +89,7 @@ impl Priority {
 }
 
 impl TriggerMode {
+    #[tactic(auto, unfolding(crate::specs::Types::starting_trigger))]
     pub fn starting(intid: IntId) -> Self
         ensures { result ≡ starting_trigger intid }
     {

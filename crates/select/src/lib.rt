@@ -88,6 +88,7 @@ fn with_record(word: u32, intid: IntId, test: WordTest, so_far: u32) -> u32
 }
 
 // Of the numbers from `first` to below `end`, and `start`; the record of the number n is at `offset + n`.
+#[tactic(auto, unfolding(crate::specs::Keys::least_key))]
 fn least_key(words: &[u32], offset: usize, first: u32, end: u32, test: WordTest, start: u32) -> u32
     requires { KeyRun offset first end words.now }
     ensures { result ≡ least_key every_number test offset first words.now start (end - first) }
@@ -131,6 +132,7 @@ fn with_number(
 }
 
 // The set bits of a word of the summary, the lowest first; `first` is the number of its bit 0.
+#[tactic(auto, using(crate::proofs::Walk::cleared, crate::proofs::Walk::walk_turn, crate::proofs::Walk::walk_end))]
 fn with_summary_word(
     words: &[u32],
     offset: usize,

@@ -18,6 +18,7 @@ pub fn depth(words: &[u32], shape: Shape, vcpu: GicVcpuId) -> u32
     interface_value(words, shape, vcpu, InterfaceValue::Depth)
 }
 
+#[tactic(auto, using(crate::proofs::Stacks::stack_empty, crate::proofs::Stacks::stack_top))]
 pub fn running_priority(words: &[u32], shape: Shape, vcpu: GicVcpuId) -> Priority
     requires { Served shape vcpu.0 words.now }
     ensures { result.0 ≡ running shape vcpu.0 words.now }
@@ -30,6 +31,7 @@ pub fn running_priority(words: &[u32], shape: Shape, vcpu: GicVcpuId) -> Priorit
 }
 
 // The depth first, so that no entry ever stands past it.
+#[tactic(auto, unfolding(crate::specs::Service::pushed))]
 pub fn push_v2_active(words: &mut [u32], shape: Shape, vcpu: GicVcpuId, entry: Entry)
     requires { (Served shape vcpu.0 words.old) × (depth_at shape vcpu.0 words.old < stack_capacity) }
     ensures { words.new ≡ pushed shape vcpu.0 entry words.old }
@@ -39,6 +41,7 @@ pub fn push_v2_active(words: &mut [u32], shape: Shape, vcpu: GicVcpuId, entry: E
     put_stack_entry(words, shape, vcpu, held as usize, entry);
 }
 
+#[tactic(auto, using(crate::proofs::Stacks::stack_empty, crate::proofs::Stacks::stack_top))]
 fn is_newest(words: &[u32], shape: Shape, vcpu: GicVcpuId, intid: IntId) -> bool
     requires { Served shape vcpu.0 words.now }
     ensures { result ≡ is_newest intid.0 (stack_at shape vcpu.0 words.now) }
@@ -51,6 +54,7 @@ fn is_newest(words: &[u32], shape: Shape, vcpu: GicVcpuId, intid: IntId) -> bool
     newest.intid.0 == intid.0
 }
 
+#[tactic(auto, unfolding(crate::specs::Service::popped))]
 fn pop(words: &mut [u32], shape: Shape, vcpu: GicVcpuId)
     requires { (Served shape vcpu.0 words.old) × (0 < depth_at shape vcpu.0 words.old) }
     ensures { words.new ≡ popped shape vcpu.0 words.old }
@@ -61,6 +65,7 @@ fn pop(words: &mut [u32], shape: Shape, vcpu: GicVcpuId)
 }
 
 // Whether `intid` was the newest, and is dropped.
+#[tactic(auto, using(crate::proofs::Stacks::newest_some), unfolding(crate::specs::Service::dropped))]
 pub fn drop_v2_priority(words: &mut [u32], shape: Shape, vcpu: GicVcpuId, intid: IntId) -> bool
     requires { Served shape vcpu.0 words.old }
     ensures { (result ≡ is_newest intid.0 (stack_at shape vcpu.0 words.old)) × (words.new ≡ dropped shape vcpu.0 intid.0 words.old) }

@@ -49,6 +49,7 @@ fn merged_sources(sources: u8, mask: u8, set: bool) -> u8
 }
 
 // A byte of SPENDSGIR, where `set`, or of CPENDSGIR.
+#[tactic(auto, unfolding(crate::specs::Sgi::write_sources))]
 pub fn write_sgi_sources(
     words: &mut [u32],
     shape: Shape,
@@ -67,6 +68,7 @@ pub fn write_sgi_sources(
     put_sources(words, shape, vcpu, sgi, sources);
 }
 
+#[tactic(auto, unfolding(crate::specs::Sgi::pend_sgi))]
 pub fn pend_sgi(words: &mut [u32], shape: Shape, vcpu: GicVcpuId, source: GicVcpuId, sgi: IntId)
     requires { (HoldsSlot shape (Sources vcpu.0 sgi.0) words.old) × (source.0 < 8) }
     ensures { words.new ≡ pend_sgi shape vcpu.0 source.0 sgi.0 words.old }
@@ -76,6 +78,7 @@ pub fn pend_sgi(words: &mut [u32], shape: Shape, vcpu: GicVcpuId, source: GicVcp
     set_pending(words, shape, vcpu, sgi, true);
 }
 
+#[tactic(auto, unfolding(crate::specs::Sgi::sgi_target))]
 pub fn sgi_target(value: u32) -> SgiTarget
     ensures { result ≡ sgi_target value }
 {
@@ -117,6 +120,7 @@ fn send_to(
     }
 }
 
+#[tactic(auto, unfolding(state::specs::Loop::up_to, crate::specs::Sgi::send_sgi))]
 pub fn send_sgi(words: &mut [u32], shape: Shape, source: GicVcpuId, sgi: IntId, target: SgiTarget)
     requires { HoldsSlot shape (Sources source.0 sgi.0) words.old }
     ensures { words.new ≡ send_sgi shape source.0 sgi.0 target words.old }
@@ -130,6 +134,7 @@ pub fn send_sgi(words: &mut [u32], shape: Shape, source: GicVcpuId, sgi: IntId, 
 }
 
 // The number is in the low four bits.
+#[tactic(auto, unfolding(crate::specs::Sgi::write_sgir))]
 pub fn write_sgir(words: &mut [u32], shape: Shape, source: GicVcpuId, value: u32)
     requires { (Room shape words.old) × (source.0 < shape.count) }
     ensures { words.new ≡ write_sgir shape source.0 value words.old }

@@ -17,6 +17,7 @@ fn starting_word(intid: IntId) -> u32
     encode(InterruptRecord::starting(intid))
 }
 
+#[tactic(auto, unfolding(crate::specs::Layout::header_slot))]
 fn header_word(shape: Shape, at: usize) -> u32
     requires { Limits shape }
     ensures { result ≡ start_of shape (header_slot at) }
@@ -31,6 +32,7 @@ fn header_word(shape: Shape, at: usize) -> u32
 }
 
 // `at` counts from the vCPU's first word: interface values and sources start at 0.
+#[tactic(auto, unfolding(crate::specs::Layout::vcpu_slot))]
 fn vcpu_word(at: usize) -> u32
     requires { at < vcpu_words }
     ensures { (shape : Shape) (v : ℕ) → result ≡ start_of shape (vcpu_slot v at) }
@@ -42,6 +44,7 @@ fn vcpu_word(at: usize) -> u32
     }
 }
 
+#[tactic(auto, using(crate::proofs::Places::tail_starts), unfolding(crate::specs::Layout::slot_at))]
 fn word_at(shape: Shape, at: usize) -> u32
     requires { (Limits shape) × (at < size shape) }
     ensures { result ≡ start_at shape at }
@@ -60,6 +63,7 @@ fn word_at(shape: Shape, at: usize) -> u32
     }
 }
 
+#[tactic(auto, unfolding(crate::specs::Loop::up_to, crate::specs::Fresh::fresh))]
 pub fn fill(words: &mut [u32], shape: Shape)
     requires { Room shape words.old }
     ensures { words.new ≡ fresh shape words.old }

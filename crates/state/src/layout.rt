@@ -137,6 +137,7 @@ fn spi_place(shape: Shape, intid: IntId) -> usize
 }
 
 // A private number has a record for each vCPU, an SPI one for all.
+#[tactic(auto, unfolding(crate::specs::Words::record_slot))]
 pub fn record_place(shape: Shape, vcpu: GicVcpuId, intid: IntId) -> usize
     requires { (Limits shape) × (RecordThere shape vcpu.0 intid.0) }
     ensures { Placed shape (record_slot vcpu.0 intid.0) result }

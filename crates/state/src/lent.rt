@@ -22,6 +22,7 @@ pub enum Lent {
     Broken,
 }
 
+#[tactic(auto, unfolding(crate::specs::Lent::limited))]
 pub fn validate_limits(count: u64, limit: u64) -> Limited
     ensures { result ≡ limited count limit }
 {

@@ -40,6 +40,7 @@ fn with_bit(word: u32, bit: u32, on: bool) -> u32
 const READY: u32 = 3;
 
 // Whether the record of this word is ready.
+#[tactic(auto, using(crate::proofs::WordBits::ready_word_lem))]
 pub fn ready_word(word: u32) -> bool
     ensures { result ≡ is_ready (record_of word) }
 {
@@ -47,6 +48,7 @@ pub fn ready_word(word: u32) -> bool
 }
 
 // What the summary says of an SPI.
+#[tactic(auto, unfolding(crate::specs::Words::ready_bit))]
 pub fn ready_bit(words: &[u32], shape: Shape, spi: IntId) -> bool
     requires { HoldsSlot shape (Spi spi.0) words.now }
     ensures { result ≡ ready_bit shape spi.0 words.now }
@@ -95,6 +97,7 @@ fn clear_word(words: &mut [u32], at: usize)
     }
 }
 
+#[tactic(auto, unfolding(crate::specs::Loop::up_to, crate::specs::Words::without_summary))]
 pub fn clear_summary(words: &mut [u32], shape: Shape)
     requires { Room shape words.old }
     ensures { words.new ≡ without_summary shape words.old }

@@ -24,6 +24,7 @@ pub fn own_byte(vcpu: GicVcpuId) -> u8
     if vcpu.0 < 8 { vcpu_bit(vcpu) } else { 0 }
 }
 
+#[tactic(auto, unfolding(crate::specs::Targets::read_target))]
 pub fn read_target(words: &[u32], shape: Shape, vcpu: GicVcpuId, intid: IntId) -> u8
     requires { Room shape words.now }
     ensures { result ≡ read_target shape vcpu.0 words.now intid.0 }
@@ -46,6 +47,7 @@ fn existing_bits(shape: Shape, byte: u8) -> u8
     (byte as u32 % (1u32 << shape.count)) as u8
 }
 
+#[tactic(auto, unfolding(crate::specs::Targets::write_target))]
 pub fn write_target(words: &mut [u32], shape: Shape, vcpu: GicVcpuId, intid: IntId, byte: u8)
     requires { Room shape words.old }
     ensures { words.new ≡ write_target shape vcpu.0 intid.0 byte words.old }

@@ -92,6 +92,7 @@ fn owner_byte(owner: Owner) -> u8
 }
 
 // Every word is exactly one record.
+#[tactic(auto, unfolding(crate::specs::Word::record_of))]
 pub fn decode(w: u32) -> InterruptRecord
     ensures { result ≡ record_of w }
 {
@@ -110,6 +111,7 @@ pub fn decode(w: u32) -> InterruptRecord
 }
 
 // The low byte of the word.
+#[tactic(auto, unfolding(crate::specs::Fields::packed))]
 fn flags(r: InterruptRecord) -> u32
     ensures { (result ≡ packed (flags_then r [])) × (result < 256) }
 {
@@ -125,6 +127,7 @@ fn flags(r: InterruptRecord) -> u32
         + 128 * set_bit(mask)
 }
 
+#[tactic(auto, unfolding(crate::specs::Fields::packed, crate::specs::Word::word_of))]
 pub fn encode(r: InterruptRecord) -> u32
     ensures { result ≡ word_of r }
 {
