@@ -1,5 +1,4 @@
 -- `answer::done` meets its contract. Assumes nothing.
-use borrow.Author.Rules.{rules}
 use Rattle.answer.proofs.done.Goals as goal
 
 pub returns : goal.returns

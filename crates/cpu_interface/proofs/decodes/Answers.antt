@@ -1,5 +1,4 @@
 -- `cpu_interface::decodes` meets its contract. Assumes nothing.
-use borrow.Author.Rules.{rules}
 use Rattle.cpu_interface.proofs.decodes.Goals as goal
 
 pub returns : goal.returns

@@ -1,5 +1,4 @@
 -- `cpu_interface::write_looks_up` meets its contract. Assumes nothing.
-use borrow.Author.Rules.{rules}
 use Rattle.cpu_interface.proofs.write_looks_up.Goals as goal
 
 pub returns-in-Eoir : goal.returns-in-Eoir

@@ -1,6 +1,5 @@
 -- `cpu_interface_frame::read_at` meets its contract. Assumes nothing.
 use Rattle.cpu_interface_frame.proofs.Passed.{read_refused, read_passed, read_answered, read_full}
-use borrow.Author.Rules.{rules}
 use Rattle.cpu_interface_frame.proofs.read_at.Goals as goal
 
 pub returns-then-absent : goal.returns-then-absent

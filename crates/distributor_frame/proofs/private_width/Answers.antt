@@ -1,5 +1,4 @@
 -- `distributor_frame::private_width` meets its contract. Assumes nothing.
-use borrow.Author.Rules.{rules}
 use Rattle.distributor_frame.proofs.private_width.Goals as goal
 
 pub returns-then-absent : goal.returns-then-absent

@@ -1,6 +1,5 @@
 -- `distributor_frame::read_at` meets its contract. Assumes nothing.
 use Rattle.distributor_frame.proofs.Passed.{read_refused, read_passed, read_answered}
-use borrow.Author.Rules.{rules}
 use Rattle.distributor_frame.proofs.read_at.Goals as goal
 
 pub returns-then-absent : goal.returns-then-absent

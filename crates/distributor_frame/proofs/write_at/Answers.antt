@@ -1,6 +1,5 @@
 -- `distributor_frame::write_at` meets its contract. Assumes nothing.
 use Rattle.distributor_frame.proofs.Passed.{write_refused, write_passed, write_stays_sound, write_answered}
-use borrow.Author.Rules.{rules}
 use Rattle.distributor_frame.proofs.write_at.Goals as goal
 
 pub returns-then-absent : goal.returns-then-absent

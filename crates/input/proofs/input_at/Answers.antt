@@ -4,7 +4,6 @@ use mathlib.Core.Bool.{Bool}
 use mathlib.Core.Path.{sym, ap, ◌∙◌}
 use Rattle.answer.specs.Answer.{absent}
 use Rattle.input.proofs.Passed.{input_there}
-use borrow.Author.Rules.{rules}
 use Rattle.input.proofs.input_at.Goals as goal
 
 pub returns-in_default : goal.returns-in_default

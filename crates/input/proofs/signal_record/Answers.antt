@@ -1,6 +1,5 @@
 -- `input::signal_record` meets its contract. Assumes nothing.
 use mathlib.Core.Path.{◌∙◌}
-use borrow.Author.Rules.{rules}
 use Rattle.input.proofs.signal_record.Goals as goal
 
 pub returns : goal.returns

@@ -1,6 +1,5 @@
 -- `input::signalled` meets its contract. Assumes nothing.
 use mathlib.Core.Path.{◌∙◌}
-use borrow.Author.Rules.{rules}
 use Rattle.input.proofs.signalled.Goals as goal
 
 pub returns-in-Level : goal.returns-in-Level

@@ -1,7 +1,6 @@
 -- `lawful_test::mask_lawful` meets its contract. Assumes nothing.
 use native.Mathlib.Omega.{arith}
 use Rattle.word.proofs.Gathered.{one_shifted}
-use borrow.Author.Rules.{rules}
 use Rattle.lawful_test.proofs.mask_lawful.Goals as goal
 
 pub returns-in-Mask : goal.returns-in-Mask

@@ -1,5 +1,4 @@
 -- `lawful_test::may_serve` meets its contract. Assumes nothing.
-use borrow.Author.Rules.{rules}
 use Rattle.lawful_test.proofs.may_serve.Goals as goal
 
 pub returns-then-is_private : goal.returns-then-is_private

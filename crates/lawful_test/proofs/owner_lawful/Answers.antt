@@ -1,5 +1,4 @@
 -- `lawful_test::owner_lawful` meets its contract. Assumes nothing.
-use borrow.Author.Rules.{rules}
 use Rattle.lawful_test.proofs.owner_lawful.Goals as goal
 
 pub returns-in-Vcpu : goal.returns-in-Vcpu

@@ -1,11 +1,9 @@
 -- `lawful_test::ppis_lawful` meets its contract. Assumes nothing.
-use mathlib.Core.Bool.{true}
-use mathlib.Core.Path.{◌≡◌}
-use Prim.Native.Nat.{◌+◌, ◌-◌, ◌≤◌}
+use Prim.Native.Nat.{◌+◌}
 use native.Mathlib.Omega.{arith}
 use borrow.Author.Rules.{rules}
 use Rattle.state.specs.Loop.{every_below}
-use Rattle.lawful_test.specs.LawfulTest.{number_lawful, numbers_lawful}
+use Rattle.lawful_test.specs.LawfulTest.{number_lawful}
 use Rattle.lawful_test.proofs.Loops.{ends, goes_on, leaves}
 use Rattle.std.proofs.lemmas.Bool.{not_from_true, not_from_false}
 use Rattle.lawful_test.proofs.ppis_lawful.Goals as goal

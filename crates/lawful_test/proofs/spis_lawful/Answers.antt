@@ -1,11 +1,9 @@
 -- `lawful_test::spis_lawful` meets its contract. Assumes nothing.
-use mathlib.Core.Bool.{true}
-use mathlib.Core.Path.{◌≡◌}
-use Prim.Native.Nat.{◌+◌, ◌-◌, ◌≤◌}
+use Prim.Native.Nat.{◌+◌, ◌-◌}
 use native.Mathlib.Omega.{arith}
 use borrow.Author.Rules.{rules}
 use Rattle.state.specs.Loop.{every_below}
-use Rattle.lawful_test.specs.LawfulTest.{spi_passes, spis_pass}
+use Rattle.lawful_test.specs.LawfulTest.{spi_passes}
 use Rattle.lawful_test.proofs.Loops.{ends, goes_on, leaves}
 use Rattle.std.proofs.lemmas.Bool.{not_from_true, not_from_false}
 use Rattle.lawful_test.proofs.spis_lawful.Goals as goal

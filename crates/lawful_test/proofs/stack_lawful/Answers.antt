@@ -1,12 +1,9 @@
 -- `lawful_test::stack_lawful` meets its contract. Assumes nothing.
-use mathlib.Core.Bool.{true}
-use mathlib.Core.Path.{◌≡◌}
-use Prim.Native.Nat.{◌-◌, ◌≤◌}
 use native.Mathlib.Numerals.{add-one}
 use native.Mathlib.Omega.{arith}
 use borrow.Author.Rules.{rules}
 use Rattle.state.specs.Loop.{every_below}
-use Rattle.service.specs.Service.{stack_to, running_of}
+use Rattle.service.specs.Service.{stack_to}
 use Rattle.lawful_test.specs.LawfulTest.{entry_lawful_at}
 use Rattle.lawful_test.proofs.Loops.{ends, goes_on, leaves}
 use Rattle.std.proofs.lemmas.Bool.{not_from_true, not_from_false}

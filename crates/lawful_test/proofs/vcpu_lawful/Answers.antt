@@ -1,5 +1,4 @@
 -- `lawful_test::vcpu_lawful` meets its contract. Assumes nothing.
-use borrow.Author.Rules.{rules}
 use Rattle.lawful_test.specs.LawfulTest.{number_lawful}
 use Rattle.lawful_test.proofs.Loops.{every_own}
 use Rattle.lawful_test.proofs.vcpu_lawful.Goals as goal

@@ -1,6 +1,5 @@
 -- `message_frame::read_register` meets its contract. Assumes nothing.
 use mathlib.Core.Path.{◌∙◌}
-use borrow.Author.Rules.{rules}
 use Rattle.message_frame.proofs.read_register.Goals as goal
 
 pub returns-in-Typer : goal.returns-in-Typer

@@ -3,7 +3,6 @@ use mathlib.Core.Path.{sym, ◌∙◌}
 use Rattle.message_frame.proofs.Called.{rings_nobody}
 use Rattle.message_frame.proofs.Windows.{inside_spi}
 use Rattle.message_frame.specs.declared.MessageRegister.TheVariants.{Setspi}
-use borrow.Author.Rules.{rules}
 use Rattle.message_frame.proofs.ring.Goals as goal
 
 pub signal_interrupt-requires : goal.signal_interrupt-requires

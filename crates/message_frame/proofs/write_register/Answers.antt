@@ -1,7 +1,6 @@
 -- `message_frame::write_register` meets its contract. Assumes nothing.
 use mathlib.Core.Path.{◌∙◌}
 use Rattle.wake.proofs.WakeSets.{none_wakes_nobody}
-use borrow.Author.Rules.{rules}
 use Rattle.message_frame.proofs.write_register.Goals as goal
 
 pub returns-in-Typer : goal.returns-in-Typer

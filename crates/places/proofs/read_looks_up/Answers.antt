@@ -1,6 +1,5 @@
 -- `places::read_looks_up` meets its contract. Assumes nothing.
 use mathlib.Core.Path.{◌∙◌}
-use borrow.Author.Rules.{rules}
 use Rattle.places.proofs.read_looks_up.Goals as goal
 
 pub returns-in-Bytes : goal.returns-in-Bytes

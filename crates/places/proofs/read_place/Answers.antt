@@ -4,7 +4,6 @@ use Prim.Native.Nat.{◌≤◌}
 use native.Mathlib.Omega.{arith}
 use Rattle.register.specs.Frame.{bytes}
 use Rattle.places.proofs.Fits.{bit_word_lem, byte_run, bytes_few}
-use borrow.Author.Rules.{rules}
 use Rattle.places.proofs.read_place.Goals as goal
 
 pub read_bits-requires : goal.read_bits-requires

@@ -1,5 +1,4 @@
 -- `places::sends` meets its contract. Assumes nothing.
-use borrow.Author.Rules.{rules}
 use Rattle.places.proofs.sends.Goals as goal
 
 pub returns-in-Mask : goal.returns-in-Mask

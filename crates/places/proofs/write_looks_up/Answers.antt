@@ -1,6 +1,5 @@
 -- `places::write_looks_up` meets its contract. Assumes nothing.
 use mathlib.Core.Path.{◌∙◌}
-use borrow.Author.Rules.{rules}
 use Rattle.places.proofs.write_looks_up.Goals as goal
 
 pub returns-in-Sgir : goal.returns-in-Sgir

@@ -1,6 +1,5 @@
 -- `wake::among_answers` meets its contract. Assumes nothing.
 use borrow.Author.Tests.{eq-eqb, ne_eqb}
-use borrow.Author.Rules.{rules}
 use Rattle.wake.proofs.among_answers.Goals as goal
 
 pub returns-then-among-vcpu-eq1 : goal.returns-then-among-vcpu-eq1

@@ -1,6 +1,5 @@
 -- `wake::bit_at` meets its contract. Assumes nothing.
 use native.Mathlib.Nat.{one-mul, zero-mul}
-use borrow.Author.Rules.{rules}
 use Rattle.wake.proofs.bit_at.Goals as goal
 
 pub returns-then-set : goal.returns-then-set
