@@ -6,8 +6,5 @@ use Rattle.message_frame.proofs.write_register.Goals as goal
 pub returns-in-Typer : goal.returns-in-Typer
 returns-in-Typer c = c.gave.ensures _ ∙ simp (c.in-Typer.is, none_wakes_nobody)
 
-pub returns-in-Setspi : goal.returns-in-Setspi
-returns-in-Setspi c = c.ring.ensures ∙ simp c.in-Setspi.is
-
 pub returns-in-Other : goal.returns-in-Other
 returns-in-Other c = c.gave-in-Other.ensures _ ∙ simp (c.in-Other.is, none_wakes_nobody)
