@@ -1,5 +1,5 @@
 -- A write to a CPU interface wakes at the most its own vCPU, and whom the record is for that it deactivates. In any words. Assumes nothing.
-use mathlib.Core.Path.{◌≡◌, refl, sym, ap, ◌∙◌}
+use mathlib.Core.Path.{◌≡◌, refl, ap, ◌∙◌}
 use mathlib.Core.Bool.{Bool, true, false, cond}
 use mathlib.Core.List.{List}
 use mathlib.Core.Logic.{inl, inr}
@@ -18,7 +18,7 @@ use Rattle.word.specs.Word.{record_of, word_of}
 use Rattle.state.specs.declared.layout.Shape.{Shape}
 use Rattle.state.specs.declared.layout.InterfaceValue.TheVariants.{Depth}
 use Rattle.state.specs.Layout.{Slot, Interface, Stack, Room, vcpu_of}
-use Rattle.state.specs.Words.{word_at, kept, record_slot, RecordThere, record_at}
+use Rattle.state.specs.Words.{kept, record_slot, RecordThere, record_at}
 use Rattle.state.proofs.Accessors.{put_other, record_exists}
 use Rattle.state.proofs.SlotKinds.{record_apart}
 use Rattle.targets.specs.Targets.{own_byte, read_target}
@@ -33,7 +33,7 @@ use Rattle.delivery.proofs.Deactivation.{deactivated_cases, deactivated_record}
 use Rattle.delivery.proofs.Ended.{ended_unchanged, ended_popped, ended_deactivated}
 use Rattle.wake.specs.Halves.{quiet_among, wake_from}
 use Rattle.wake.specs.Wake.{woken, wake_set}
-use Rattle.wake.proofs.Unseen.{OfOther, Aside, Unseen, unseen_none, unseen_kept, unseen_wakes_not}
+use Rattle.wake.proofs.Unseen.{Aside, Unseen, unseen_none, unseen_kept, unseen_wakes_not}
 use Rattle.wake.proofs.Seen.{own_bit, not_for_it}
 use Rattle.wake.proofs.WakeSets.{wake_among}
 use Rattle.cpu_interface_frame.specs.Seers.{write_seers}

@@ -1,6 +1,6 @@
 -- The numbers of an image by their parts, one after another: how load walks through it. A reader need not believe any of it:
 -- `body_by_parts` (proofs/ByParts.antt) says that these are the numbers of Image.antt.
-use Rattle.std.specs.Prelude.{cond, List, [], ◌∷◌, ℕ, ◌+◌, ◌-◌, ◌*◌, ◌/◌, ◌%◌, ◌<◌, ltb}
+use Rattle.std.specs.Prelude.{cond, List, ℕ, ◌+◌, ◌-◌, ◌*◌, ◌/◌, ◌%◌, ◌<◌, ltb}
 use Rattle.interrupt.specs.Types.{is_private_id}
 use Rattle.state.specs.declared.layout.Shape.{Shape}
 use Rattle.state.specs.Words.{record_at, sources_at, RecordThere}

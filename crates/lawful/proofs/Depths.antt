@@ -1,6 +1,6 @@
 -- "So at most 255 are held and an acknowledge never lacks room"; of a stack whose priorities fall, lie below 255 and are even, at most 128
 -- (document 02, Two). Assumes nothing.
-use mathlib.Core.Path.{◌≡◌, refl, sym, ap, ◌∙◌}
+use mathlib.Core.Path.{◌≡◌, refl, ap}
 use mathlib.Core.List.{List}
 use Prim.Native.Nat.{ℕ, zero, suc, ◌+◌, ◌*◌, ◌≤◌, ◌<◌}
 use native.Mathlib.Omega.{arith}

@@ -1,6 +1,6 @@
 -- A fresh controller is lawful, for every count and limit and whatever was in the lent words before. Assumes nothing.
 use mathlib.Core.Path.{◌≡◌, refl, ap, subst, sym, ◌∙◌}
-use mathlib.Core.Bool.{Bool, true, false, cond, true≢false, false≢true}
+use mathlib.Core.Bool.{Bool, true, false, cond, false≢true}
 use mathlib.Core.List.{List}
 use Prim.Native.Nat.{ℕ, ◌<◌}
 use native.Mathlib.Omega.{arith}
@@ -15,7 +15,7 @@ use Rattle.word.proofs.RecordWord.{decode_encode}
 use Rattle.state.specs.declared.layout.Shape.{Shape}
 use Rattle.state.specs.declared.layout.InterfaceValue.TheVariants.{Depth}
 use Rattle.state.specs.Fresh.{fresh}
-use Rattle.state.specs.Layout.{Slot, Interface, Sources, Private, Spi, Room}
+use Rattle.state.specs.Layout.{Interface, Sources, Private, Spi, Room}
 use Rattle.state.specs.Words.{record_slot, RecordThere, record_at, start_of}
 use Rattle.state.proofs.Accessors.{record_exists}
 use Rattle.state.proofs.Places.{starting_in_range}

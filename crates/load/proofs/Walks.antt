@@ -16,7 +16,7 @@ use Rattle.state.specs.Loop.{up_to}
 use Rattle.state.specs.Words.{with_entry, without_entry}
 use Rattle.state.proofs.Steps.{up_idle}
 use Rattle.load.specs.declared.reading.FoundEntry.TheVariants as entry
-use Rattle.load.specs.declared.walking.Place.TheVariants.{At, Refused}
+use Rattle.load.specs.declared.walking.Place.TheVariants.{Refused}
 use Rattle.load.specs.Reading.{entry_found}
 use Rattle.load.specs.Walking.{spot, lost, entry_in, entry_spot, entry_stored, entries_stored, cleared_past, walked}
 

@@ -1,10 +1,10 @@
 -- How an image is read, number by number: docs/IMAGE.md, "What is left out of a range is not an image", and of a lawful state what a part
 -- shows by itself. A reader need not believe any of it: crates/moving says that exactly the images of lawful states load, and as what.
-use Rattle.std.specs.Prelude.{Bool, not, cond, ◌&&◌, List, ℕ, zero, suc, ◌%◌, ◌^◌, eqb, leb, ltb}
+use Rattle.std.specs.Prelude.{Bool, not, cond, ◌&&◌, List, ℕ, ◌%◌, ◌^◌, eqb, leb, ltb}
 use Rattle.groups.specs.declared.Found.{Found}
 use Rattle.groups.specs.declared.Found.TheVariants as found
 use Rattle.groups.specs.Groups.{found_at}
-use Rattle.interrupt.specs.Types.{is_sgi, is_private_id, priority_of, idle_priority}
+use Rattle.interrupt.specs.Types.{is_sgi, is_private_id, priority_of}
 use Rattle.interrupt.specs.declared.record.CpuTargetMask.{CpuTargetMask}
 use Rattle.interrupt.specs.declared.record.CpuTargetMask.TheVariants.{Unset, Mask}
 use Rattle.interrupt.specs.declared.record.InterruptRecord.{InterruptRecord}

@@ -1,6 +1,6 @@
 -- What a call of the message frame comes to, case by case: the lent state, then the window, then where the access is. Each law takes what the
 -- steps of the call have shown, one premise for each step. Assumes nothing.
-use mathlib.Core.Path.{◌≡◌, sym, ◌∙◌}
+use mathlib.Core.Path.{◌≡◌, ◌∙◌}
 use mathlib.Core.Bool.{Bool, true, false, not, cond}
 use mathlib.Core.List.{List}
 use Prim.Native.Nat.{ℕ, ◌%◌, ◌^◌}

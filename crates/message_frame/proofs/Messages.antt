@@ -1,6 +1,6 @@
 -- What a write to the message frame comes to in words that hold a state: the SPI that it rings is pulsed, or nothing changes; and its wake set is that
 -- of the words before and after it, refused or not. Assumes nothing.
-use mathlib.Core.Path.{◌≡◌, refl, ap, ◌∙◌}
+use mathlib.Core.Path.{◌≡◌, refl}
 use mathlib.Core.Bool.{Bool, true, false, cond, ◌&&◌}
 use mathlib.Core.List.{List}
 use Prim.Native.Nat.{ℕ, ◌%◌, ◌^◌}

@@ -9,7 +9,7 @@ use Rattle.state.specs.declared.layout.Shape.{Shape}
 use Rattle.state.specs.declared.lent.Limited.{Limited}
 use Rattle.state.specs.declared.lent.Limited.TheVariants.{Within, Outside}
 use Rattle.state.specs.Layout.{Limits}
-use Rattle.state.specs.Lent.{limited, shaped}
+use Rattle.state.specs.Lent.{limited}
 use Rattle.state.proofs.Validated.{limited_shape, limited_limits, limits_limited}
 use Rattle.load.specs.declared.opening.FoundShape.{FoundShape}
 use Rattle.load.specs.declared.opening.FoundShape.TheVariants as shapes

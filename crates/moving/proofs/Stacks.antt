@@ -5,7 +5,7 @@ use mathlib.Core.List.{List, [], ◌∷◌, ◌++◌, append-nil}
 use Prim.Native.Nat.{ℕ, zero, suc, ◌+◌, ◌-◌, ◌%◌, ◌≤◌, ◌<◌}
 use native.Mathlib.Nat.{zero-add, le_refl}
 use native.Mathlib.Omega.{arith}
-use lib.ListN.{length, drop, drop_of_length-le}
+use lib.ListN.{length, drop_of_length-le}
 use Rattle.groups.specs.declared.Found.TheVariants.{Number}
 use Rattle.groups.specs.Groups.{spelled, found_at}
 use Rattle.groups.proofs.Numbers.{AllSmall}
@@ -17,7 +17,7 @@ use Rattle.state.specs.Words.{distributor_control_at}
 use Rattle.service.specs.Service.{depth_at}
 use Rattle.answer.specs.Answer.{refused}
 use Rattle.lawful.specs.Lawful.{priority_at, Lawful}
-use Rattle.image.specs.Image.{each, interface_numbers, service_numbers, private_numbers_at, spi_numbers_at, body_numbers, numbers, image, IsImage}
+use Rattle.image.specs.Image.{each, interface_numbers, service_numbers, private_numbers_at, spi_numbers_at, body_numbers, image, IsImage}
 use Rattle.load.specs.Load.{load}
 use Rattle.moving.proofs.BytesNumbers.{Row, row_parts, row_each, First, row_first}
 use Rattle.moving.proofs.BytesService.{entries_of}

@@ -5,11 +5,11 @@ use mathlib.Core.Path.{◌≡◌, refl, sym, ap, subst, ◌∙◌}
 use mathlib.Core.Bool.{Bool, true, false, not, cond, ◌&&◌, true≢false, and-false}
 use mathlib.Core.List.{List}
 use mathlib.Core.Logic.{◌⊎◌, inl, inr}
-use mathlib.Core.Option.{Option, none, some}
+use mathlib.Core.Option.{none, some}
 use Prim.Native.Nat.{ℕ, ◌≤◌, ◌<◌}
 use native.Mathlib.Omega.{arith}
 use lib.Dec.{ltb}
-use borrow.Author.Tests.{ltb-true, ltb-false, lt-ltb}
+use borrow.Author.Tests.{ltb-true, ltb-false}
 use Rattle.interrupt.specs.declared.record.InterruptRecord.{InterruptRecord}
 use Rattle.interrupt.specs.Record.{is_ready}
 use Rattle.word.specs.Word.{record_of}
@@ -17,7 +17,7 @@ use Rattle.state.specs.declared.layout.Shape.{Shape}
 use Rattle.state.specs.declared.layout.InterfaceValue.{InterfaceValue}
 use Rattle.state.specs.declared.layout.InterfaceValue.TheVariants.{Control, PriorityMask, BinaryPoint, Depth}
 use Rattle.state.specs.Layout.{Slot, DistributorControl, Interface, Private, Spi, Stack, stack_capacity, Exists, Limits, Room, vcpu_of}
-use Rattle.state.specs.Words.{word_at, record_slot, RecordThere, record_at, ready_bit, kept, interface_at, kept_distributor_control, enable_bit, enabled_at}
+use Rattle.state.specs.Words.{word_at, record_slot, RecordThere, record_at, ready_bit, kept, interface_at, kept_distributor_control, enable_bit}
 use Rattle.state.proofs.Accessors.{put_room, put_other, same_or_other, record_exists, record_private, record_spi}
 use Rattle.state.proofs.SlotKinds.{apart_record}
 use Rattle.state.proofs.Ready.{PutKeeps, put_ready_other}
@@ -25,11 +25,11 @@ use Rattle.state.proofs.Tests.{left_true}
 use Rattle.select.specs.declared.Candidate.{Candidate}
 use Rattle.select.specs.declared.Selected.{Selected}
 use Rattle.select.specs.declared.Selected.TheVariants.{Best, Nothing}
-use Rattle.select.specs.Select.{offered, eligible, ready_at, candidate, both_on, IsBest}
+use Rattle.select.specs.Select.{offered, eligible, ready_at, candidate, both_on}
 use Rattle.select.proofs.Meaning.{best_is}
 use Rattle.service.specs.Service.{depth_at, running_of, running}
 use Rattle.service.proofs.Stacks.{stack_same}
-use Rattle.acknowledge.specs.Acknowledge.{group_priority, group_of, offer, answered, acknowledge}
+use Rattle.acknowledge.specs.Acknowledge.{group_priority, offer, answered, acknowledge}
 use Rattle.acknowledge.proofs.Offers.{offer_is}
 use Rattle.wake.specs.Halves.{ready}
 use Rattle.wake.specs.Wake.{is_spurious, gives_number, woken}

@@ -1,13 +1,6 @@
 -- `cpu_interface_frame::read_at` meets its contract. Assumes nothing.
-use Rattle.cpu_interface_frame.proofs.Passed.{read_refused, read_passed, read_answered, read_full}
-use borrow.Author.Rules.{rules}
+use Rattle.cpu_interface_frame.proofs.Passed.{read_answered, read_full}
 use Rattle.cpu_interface_frame.proofs.read_at.Goals as goal
-
-pub returns-then-absent : goal.returns-then-absent
-returns-then-absent c = search read_refused
-
-pub read_register-requires : goal.read_register-requires
-read_register-requires c = search read_passed
 
 pub returns-in-Value : goal.returns-in-Value
 returns-in-Value c = search (read_answered, c.gave.ensures)

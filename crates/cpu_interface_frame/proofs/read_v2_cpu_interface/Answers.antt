@@ -1,7 +1,6 @@
 -- `cpu_interface_frame::read_v2_cpu_interface` meets its contract. Assumes nothing.
 use Rattle.answer.proofs.Present.{found_sound}
 use Rattle.cpu_interface_frame.proofs.Called.{read_broken, read_nowhere, read_somewhere}
-use borrow.Author.Rules.{rules}
 use Rattle.cpu_interface_frame.proofs.read_v2_cpu_interface.Goals as goal
 
 pub returns-in_default : goal.returns-in_default

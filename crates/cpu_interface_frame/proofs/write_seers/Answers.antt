@@ -1,5 +1,4 @@
 -- `cpu_interface_frame::write_seers` meets its contract. Assumes nothing.
-use borrow.Author.Rules.{rules}
 use Rattle.cpu_interface_frame.specs.Seers.{write_seers}
 use Rattle.cpu_interface_frame.proofs.write_seers.Goals as goal
 

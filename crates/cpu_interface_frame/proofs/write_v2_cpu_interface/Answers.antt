@@ -1,7 +1,6 @@
 -- `cpu_interface_frame::write_v2_cpu_interface` meets its contract. Assumes nothing.
 use Rattle.answer.proofs.Present.{found_sound}
 use Rattle.cpu_interface_frame.proofs.Called.{write_broken, write_nowhere, write_somewhere}
-use borrow.Author.Rules.{rules}
 use Rattle.cpu_interface_frame.proofs.write_v2_cpu_interface.Goals as goal
 
 pub returns-in_default : goal.returns-in_default

@@ -1,7 +1,6 @@
 -- `distributor_frame::read_v2_distributor` meets its contract. Assumes nothing.
 use Rattle.answer.proofs.Present.{found_sound}
 use Rattle.distributor_frame.proofs.Called.{at_located, read_broken, read_nowhere, read_private_width, read_somewhere}
-use borrow.Author.Rules.{rules}
 use Rattle.distributor_frame.proofs.read_v2_distributor.Goals as goal
 
 pub returns-in_default : goal.returns-in_default

@@ -1,7 +1,6 @@
 -- `distributor_frame::write_v2_distributor` meets its contract. Assumes nothing.
 use Rattle.answer.proofs.Present.{found_sound}
 use Rattle.distributor_frame.proofs.Called.{at_located, write_broken, write_nowhere, write_private_width, write_somewhere}
-use borrow.Author.Rules.{rules}
 use Rattle.distributor_frame.proofs.write_v2_distributor.Goals as goal
 
 pub returns-in_default : goal.returns-in_default

@@ -2,7 +2,6 @@
 use mathlib.Core.Path.{sym, ◌∙◌}
 use Rattle.service.proofs.Soundness.{validated_sound}
 use Rattle.input.specs.Input.{device_input}
-use borrow.Author.Rules.{rules}
 use Rattle.input.proofs.device_input.Goals as goal
 
 pub returns-in_default : goal.returns-in_default

@@ -4,14 +4,7 @@ use mathlib.Core.Bool.{Bool}
 use mathlib.Core.Path.{sym, ap, ◌∙◌}
 use Rattle.answer.specs.Answer.{absent}
 use Rattle.input.proofs.Passed.{input_there}
-use borrow.Author.Rules.{rules}
 use Rattle.input.proofs.input_at.Goals as goal
-
-pub returns-in_default : goal.returns-in_default
-returns-in_default c = simp (← c.input_number.ensures, c.in_default.is)
-
-pub returns-then-absent : goal.returns-then-absent
-returns-then-absent c = simp (← c.input_number.ensures, c.in-Device.is, ← c.is_private.ensures, ← c.absent.ensures, c.if-absent.true)
 
 pub signal_interrupt-requires : goal.signal_interrupt-requires
 signal_interrupt-requires c =
@@ -21,14 +14,3 @@ signal_interrupt-requires c =
       there = input_there a.shape a.vcpu.0 a.number _ (sym c.input_number.ensures ∙ c.in-Device.is)
           (sym (ap (λ (b : Bool). absent b a.shape a.vcpu.0) c.is_private.ensures) ∙ sym c.absent.ensures ∙ c.if-absent.false);
     }
-
-pub returns : goal.returns
-returns c =
-    c.signal_interrupt.ensures
-    ∙ simp (
-      ← c.input_number.ensures,
-      c.in-Device.is,
-      ← c.is_private.ensures,
-      ← c.absent.ensures,
-      c.if-absent.false,
-    )

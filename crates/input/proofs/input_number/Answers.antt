@@ -3,7 +3,6 @@ use mathlib.Core.Path.{sym, ◌∙◌}
 use mathlib.Core.Bool.{and-false}
 use borrow.Author.Tests.{lt-ltb, le-ltb}
 use Rattle.input.specs.Input.{input_of}
-use borrow.Author.Rules.{rules}
 use Rattle.input.proofs.input_number.Goals as goal
 
 pub returns-then-shape-number : goal.returns-then-shape-number

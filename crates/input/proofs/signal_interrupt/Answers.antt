@@ -3,7 +3,6 @@ use mathlib.Core.Path.{◌∙◌}
 use Rattle.input.specs.Input.{signalled}
 use Rattle.input.proofs.Passed.{changed_sound}
 use Rattle.input.proofs.Wakes.{signal_wakes}
-use borrow.Author.Rules.{rules}
 use Rattle.input.proofs.signal_interrupt.Goals as goal
 
 pub done-requires : goal.done-requires

@@ -1,6 +1,5 @@
 -- `lawful_test::is_lawful` meets its contract. Assumes nothing.
 use Rattle.lawful_test.specs.LawfulTest.{is_lawful}
-use borrow.Author.Rules.{rules}
 use Rattle.lawful_test.proofs.is_lawful.Goals as goal
 
 pub returns-then-vcpus_lawful : goal.returns-then-vcpus_lawful

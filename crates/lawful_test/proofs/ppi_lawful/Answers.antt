@@ -1,6 +1,5 @@
 -- `lawful_test::ppi_lawful` meets its contract. Assumes nothing.
 use mathlib.Core.Path.{sym, ◌∙◌}
-use borrow.Author.Rules.{rules}
 use Rattle.lawful_test.proofs.Quiet.{quiet_ppi, number_plain}
 use Rattle.lawful_test.proofs.ppi_lawful.Goals as goal
 

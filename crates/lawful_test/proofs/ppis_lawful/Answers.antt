@@ -1,12 +1,10 @@
 -- `lawful_test::ppis_lawful` meets its contract. Assumes nothing.
-use mathlib.Core.Bool.{true}
-use mathlib.Core.Path.{◌≡◌}
-use Prim.Native.Nat.{◌+◌, ◌-◌, ◌≤◌}
+use Prim.Native.Nat.{◌+◌}
 use native.Mathlib.Omega.{arith}
 use borrow.Author.Rules.{rules}
 use Rattle.state.specs.Loop.{every_below}
-use Rattle.lawful_test.specs.LawfulTest.{number_lawful, numbers_lawful}
-use Rattle.lawful_test.proofs.Loops.{ends, goes_on, leaves}
+use Rattle.lawful_test.specs.LawfulTest.{number_lawful}
+use Rattle.lawful_test.proofs.Loops.{goes_on, leaves}
 use Rattle.std.proofs.lemmas.Bool.{not_from_true, not_from_false}
 use Rattle.lawful_test.proofs.ppis_lawful.Goals as goal
 
@@ -25,8 +23,3 @@ loop-i-preserved c =
     let a = c.args in
     let l = c.loop-i in
     (search rules, goes_on (λ k. number_lawful a.shape a.vcpu.0 a.words.now (16 + k)) l.i _ c.ppi_lawful.ensures l.invariant.1 (not_from_true _ c.if-not-ppi_lawful.false))
-
-pub returns : goal.returns
-returns c =
-    let a = c.args in
-    ends (λ k. number_lawful a.shape a.vcpu.0 a.words.now (16 + k)) c.loop-i.i _ c.loop-i.invariant.1 (omega arith)

@@ -1,6 +1,5 @@
 -- `lawful_test::record_lawful` meets its contract. Assumes nothing.
 use Rattle.lawful_test.specs.LawfulTest.{record_lawful}
-use borrow.Author.Rules.{rules}
 use Rattle.lawful_test.proofs.record_lawful.Goals as goal
 
 pub returns : goal.returns

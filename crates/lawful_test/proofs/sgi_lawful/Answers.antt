@@ -1,6 +1,5 @@
 -- `lawful_test::sgi_lawful` meets its contract. Assumes nothing.
 use mathlib.Core.Path.{sym, ◌∙◌}
-use borrow.Author.Rules.{rules}
 use Rattle.lawful_test.proofs.Quiet.{quiet_sgi, number_sgi}
 use Rattle.lawful_test.proofs.sgi_lawful.Goals as goal
 

@@ -1,12 +1,9 @@
 -- `lawful_test::sgis_lawful` meets its contract. Assumes nothing.
-use mathlib.Core.Bool.{true}
-use mathlib.Core.Path.{◌≡◌}
-use Prim.Native.Nat.{◌-◌, ◌≤◌}
 use native.Mathlib.Omega.{arith}
 use borrow.Author.Rules.{rules}
 use Rattle.state.specs.Loop.{every_below}
 use Rattle.lawful_test.specs.LawfulTest.{number_lawful}
-use Rattle.lawful_test.proofs.Loops.{ends, goes_on, leaves}
+use Rattle.lawful_test.proofs.Loops.{goes_on, leaves}
 use Rattle.std.proofs.lemmas.Bool.{not_from_true, not_from_false}
 use Rattle.lawful_test.proofs.sgis_lawful.Goals as goal
 
@@ -25,8 +22,3 @@ loop-i-preserved c =
     let a = c.args in
     let l = c.loop-i in
     (search rules, goes_on (number_lawful a.shape a.vcpu.0 a.words.now) l.i _ c.sgi_lawful.ensures l.invariant.1 (not_from_true _ c.if-not-sgi_lawful.false))
-
-pub returns : goal.returns
-returns c =
-    let a = c.args in
-    ends (number_lawful a.shape a.vcpu.0 a.words.now) c.loop-i.i _ c.loop-i.invariant.1 (omega arith)

@@ -1,7 +1,6 @@
 -- `lawful_test::spi_lawful` meets its contract. Assumes nothing.
 use mathlib.Core.Path.{sym, ◌∙◌}
 use native.Mathlib.Omega.{arith}
-use borrow.Author.Rules.{rules}
 use Rattle.word.proofs.Gathered.{one_shifted}
 use Rattle.lawful_test.proofs.Quiet.{quiet_spi, number_plain}
 use Rattle.lawful_test.proofs.spi_lawful.Goals as goal

@@ -1,12 +1,10 @@
 -- `lawful_test::spis_lawful` meets its contract. Assumes nothing.
-use mathlib.Core.Bool.{true}
-use mathlib.Core.Path.{◌≡◌}
-use Prim.Native.Nat.{◌+◌, ◌-◌, ◌≤◌}
+use Prim.Native.Nat.{◌+◌, ◌-◌}
 use native.Mathlib.Omega.{arith}
 use borrow.Author.Rules.{rules}
 use Rattle.state.specs.Loop.{every_below}
-use Rattle.lawful_test.specs.LawfulTest.{spi_passes, spis_pass}
-use Rattle.lawful_test.proofs.Loops.{ends, goes_on, leaves}
+use Rattle.lawful_test.specs.LawfulTest.{spi_passes}
+use Rattle.lawful_test.proofs.Loops.{goes_on, leaves}
 use Rattle.std.proofs.lemmas.Bool.{not_from_true, not_from_false}
 use Rattle.lawful_test.proofs.spis_lawful.Goals as goal
 
@@ -25,8 +23,3 @@ loop-i-preserved c =
     let a = c.args in
     let l = c.loop-i in
     (search rules, goes_on (λ k. spi_passes a.shape a.words.now (32 + k)) l.i _ c.spi_lawful.ensures l.invariant.1 (not_from_true _ c.if-not-spi_lawful.false))
-
-pub returns : goal.returns
-returns c =
-    let a = c.args in
-    ends (λ k. spi_passes a.shape a.words.now (32 + k)) c.loop-i.i _ c.loop-i.invariant.1 (omega arith)

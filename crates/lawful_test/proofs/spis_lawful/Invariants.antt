@@ -1,11 +1,7 @@
 use mathlib.Core.Bool.{true}
 use mathlib.Core.Path.{◌≡◌}
-use Prim.Native.Nat.{◌+◌, ◌-◌, ◌≤◌}
-use native.Mathlib.Omega.{arith}
-use borrow.Author.Rules.{rules}
-use Rattle.state.specs.Loop.{every_below}
-use Rattle.lawful_test.specs.LawfulTest.{spi_passes, spis_pass}
-use Rattle.lawful_test.proofs.Loops.{ends, goes_on, leaves}
+use Prim.Native.Nat.{◌-◌, ◌≤◌}
+use Rattle.lawful_test.specs.LawfulTest.{spis_pass}
 use Rattle.lawful_test.proofs.spis_lawful.Given as goal
 
 abbrev pub invariant-loop-i : goal.invariant-loop-i

@@ -1,23 +1,17 @@
 -- `lawful_test::stack_lawful` meets its contract. Assumes nothing.
-use mathlib.Core.Bool.{true}
-use mathlib.Core.Path.{◌≡◌}
-use Prim.Native.Nat.{◌-◌, ◌≤◌}
 use native.Mathlib.Numerals.{add-one}
 use native.Mathlib.Omega.{arith}
 use borrow.Author.Rules.{rules}
 use Rattle.state.specs.Loop.{every_below}
-use Rattle.service.specs.Service.{stack_to, running_of}
+use Rattle.service.specs.Service.{stack_to}
 use Rattle.lawful_test.specs.LawfulTest.{entry_lawful_at}
-use Rattle.lawful_test.proofs.Loops.{ends, goes_on, leaves}
+use Rattle.lawful_test.proofs.Loops.{goes_on, leaves}
 use Rattle.std.proofs.lemmas.Bool.{not_from_true, not_from_false}
 use Rattle.lawful_test.proofs.stack_lawful.Goals as goal
 
 pub loop-i-init : goal.loop-i-init
 unfolding every_below stack_to
 loop-i-init c = search rules
-
-pub stack_entry-entry-requires : goal.stack_entry-entry-requires
-stack_entry-entry-requires c = record { state = search rules; exists = (search rules, search rules) }
 
 pub returns-then-not-entry_lawful : goal.returns-then-not-entry_lawful
 returns-then-not-entry_lawful c =
@@ -34,8 +28,3 @@ loop-i-preserved c =
     let entry = c.stack_entry-entry.ensures in
     let same = simp (l.invariant.1, entry) at c.entry_lawful.ensures in
     (search rules, rw add-one (simp entry), goes_on (entry_lawful_at a.shape a.vcpu.0 a.words.now) l.i _ same l.invariant.2 (not_from_true _ c.if-not-entry_lawful.false))
-
-pub returns : goal.returns
-returns c =
-    let a = c.args in
-    ends (entry_lawful_at a.shape a.vcpu.0 a.words.now) c.loop-i.i _ c.loop-i.invariant.2 (omega (arith, c.depth-held.ensures))

@@ -1,13 +1,9 @@
 use mathlib.Core.Bool.{true}
 use mathlib.Core.Path.{◌≡◌}
 use Prim.Native.Nat.{◌-◌, ◌≤◌}
-use native.Mathlib.Numerals.{add-one}
-use native.Mathlib.Omega.{arith}
-use borrow.Author.Rules.{rules}
 use Rattle.state.specs.Loop.{every_below}
 use Rattle.service.specs.Service.{stack_to, running_of}
 use Rattle.lawful_test.specs.LawfulTest.{entry_lawful_at}
-use Rattle.lawful_test.proofs.Loops.{ends, goes_on, leaves}
 use Rattle.lawful_test.proofs.stack_lawful.Given as goal
 
 abbrev pub invariant-loop-i : goal.invariant-loop-i

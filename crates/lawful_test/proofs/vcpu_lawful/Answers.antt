@@ -1,11 +1,7 @@
 -- `lawful_test::vcpu_lawful` meets its contract. Assumes nothing.
-use borrow.Author.Rules.{rules}
 use Rattle.lawful_test.specs.LawfulTest.{number_lawful}
 use Rattle.lawful_test.proofs.Loops.{every_own}
 use Rattle.lawful_test.proofs.vcpu_lawful.Goals as goal
-
-pub returns-then-not-stack_lawful : goal.returns-then-not-stack_lawful
-returns-then-not-stack_lawful c = simp (← c.stack_lawful.ensures, c.if-not-stack_lawful.true)
 
 pub returns-then-sgis_lawful : goal.returns-then-sgis_lawful
 returns-then-sgis_lawful c =

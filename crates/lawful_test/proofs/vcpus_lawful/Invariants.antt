@@ -1,12 +1,8 @@
 use mathlib.Core.Bool.{true}
 use mathlib.Core.Path.{◌≡◌}
 use Prim.Native.Nat.{◌-◌, ◌≤◌}
-use native.Mathlib.Omega.{arith}
-use borrow.Author.Rules.{rules}
 use Rattle.state.specs.Loop.{every_below}
-use Rattle.service.proofs.Soundness.{sound_served}
 use Rattle.lawful_test.specs.LawfulTest.{vcpu_lawful}
-use Rattle.lawful_test.proofs.Loops.{ends, goes_on, leaves}
 use Rattle.lawful_test.proofs.vcpus_lawful.Given as goal
 
 abbrev pub invariant-loop-v : goal.invariant-loop-v

@@ -3,7 +3,6 @@ use mathlib.Core.Path.{sym, ◌∙◌}
 use native.Mathlib.Omega.{arith}
 use Rattle.load.specs.Load.{shape_stated}
 use Rattle.load.proofs.Openings.{found_limits}
-use borrow.Author.Rules.{rules}
 use Rattle.load.proofs.image_shape.Goals as goal
 
 pub returns-in_default : goal.returns-in_default

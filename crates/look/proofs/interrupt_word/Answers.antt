@@ -1,6 +1,5 @@
 -- `look::interrupt_word` meets its contract. Assumes nothing.
 use Rattle.look.proofs.Seen.{interrupt_broken, interrupt_past, interrupt_absent, interrupt_there, interrupt_seen}
-use borrow.Author.Rules.{rules}
 use Rattle.look.proofs.interrupt_word.Goals as goal
 
 pub returns-in_default : goal.returns-in_default

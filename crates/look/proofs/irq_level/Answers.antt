@@ -1,6 +1,5 @@
 -- `look::irq_level` meets its contract. Assumes nothing.
 use Rattle.look.proofs.Seen.{level_broken, level_absent, level_served, level_seen}
-use borrow.Author.Rules.{rules}
 use Rattle.look.proofs.irq_level.Goals as goal
 
 pub returns-in_default : goal.returns-in_default

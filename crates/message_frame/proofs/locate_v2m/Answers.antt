@@ -2,7 +2,6 @@
 use borrow.Author.Tests.{not-true}
 use Rattle.message_frame.specs.MessageFrame.{locate_v2m}
 use Rattle.message_frame.proofs.Called.{located_at, located_unfit}
-use borrow.Author.Rules.{rules}
 use Rattle.std.proofs.lemmas.Bool.{not_from_false}
 use Rattle.message_frame.proofs.locate_v2m.Goals as goal
 

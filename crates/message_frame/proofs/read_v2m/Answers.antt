@@ -1,7 +1,6 @@
 -- `message_frame::read_v2m` meets its contract. Assumes nothing.
 use Rattle.message_frame.proofs.Called.{read_broken, read_no_window, read_nowhere, read_somewhere}
 use Rattle.message_frame.proofs.Windows.{seen_fits}
-use borrow.Author.Rules.{rules}
 use Rattle.message_frame.proofs.read_v2m.Goals as goal
 
 pub returns-in_default : goal.returns-in_default

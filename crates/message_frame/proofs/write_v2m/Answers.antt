@@ -1,7 +1,6 @@
 -- `message_frame::write_v2m` meets its contract. Assumes nothing.
 use Rattle.message_frame.proofs.Called.{write_broken, write_no_window, write_nowhere, write_somewhere}
 use Rattle.message_frame.proofs.Windows.{seen_framed}
-use borrow.Author.Rules.{rules}
 use Rattle.message_frame.proofs.write_v2m.Goals as goal
 
 pub returns-in_default : goal.returns-in_default

@@ -5,7 +5,6 @@ use Prim.Native.Nat.{◌≤◌}
 use native.Mathlib.Omega.{arith}
 use lib.ListN.{length}
 use borrow.Author.Tests.{le-leb}
-use borrow.Author.Rules.{rules}
 use Rattle.image.specs.Image.{image}
 use Rattle.save.proofs.Bound.{image_fits}
 use Rattle.save.proofs.Saved.{lawful_sound, lawful_fits, measured}

@@ -1,5 +1,4 @@
 -- `save::save` meets its contract. Assumes nothing.
-use borrow.Author.Rules.{rules}
 use Rattle.answer.proofs.Present.{found_sound}
 use Rattle.save.proofs.Saved.{saved_broken, saved_unlawful, saved_lawful, saved_refused, saved_fits, saved_short, saved_whole}
 use Rattle.std.proofs.lemmas.Bool.{not_from_true}

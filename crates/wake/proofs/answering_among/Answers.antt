@@ -1,5 +1,5 @@
 -- `wake::answering_among` meets its contract. Assumes nothing.
-use Prim.Native.Nat.{ℕ, ◌≤◌, ◌-◌}
+use Prim.Native.Nat.{ℕ}
 use mathlib.Core.Path.{◌≡◌, ap, ◌∙◌}
 use native.Mathlib.Numerals.{add-one}
 use native.Mathlib.Omega.{arith}
@@ -13,9 +13,6 @@ use Rattle.wake.proofs.answering_among.Goals as goal
 pub loop-v-init : goal.loop-v-init
 unfolding gathered
 loop-v-init c = search rules
-
-pub among_answers-requires : goal.among_answers-requires
-among_answers-requires c = record { state = search rules; exists = search rules; deep = c.requires.depths c.loop-v.v (search rules) }
 
 pub overflow_add-bits : goal.overflow_add-bits
 overflow_add-bits c = record { fits = rw (c.loop-v.invariant.1, c.bit_at-bits.ensures, c.among_answers.ensures) (bits_fit c.args.answer c.args.among c.args.shape c.args.words.now c.loop-v.v (search rules)) }

@@ -1,12 +1,8 @@
 use Prim.Native.Nat.{ℕ, ◌≤◌, ◌-◌}
-use mathlib.Core.Path.{◌≡◌, ap, ◌∙◌}
-use native.Mathlib.Numerals.{add-one}
-use native.Mathlib.Omega.{arith}
+use mathlib.Core.Path.{◌≡◌}
 use Rattle.word.specs.Fields.{gathered}
 use Rattle.word.specs.Word.{bit_of}
-use Rattle.wake.specs.Halves.{among_answers, answering_among}
-use borrow.Author.Rules.{rules}
-use Rattle.wake.proofs.WakeSets.{bits_fit}
+use Rattle.wake.specs.Halves.{among_answers}
 use Rattle.wake.proofs.answering_among.Given as goal
 
 abbrev pub invariant-loop-v : goal.invariant-loop-v

@@ -1,6 +1,5 @@
 -- `wake::answers_so` meets its contract. Assumes nothing.
 use mathlib.Core.Path.{sym}
-use borrow.Author.Rules.{rules}
 use Rattle.wake.proofs.Readiness.{ready_spurious, ready_number}
 use Rattle.wake.proofs.answers_so.Goals as goal
 

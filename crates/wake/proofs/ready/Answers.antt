@@ -1,5 +1,4 @@
 -- `wake::ready` meets its contract. Assumes nothing.
-use borrow.Author.Rules.{rules}
 use Rattle.wake.proofs.Readiness.{ready_below}
 use Rattle.wake.proofs.ready.Goals as goal
 

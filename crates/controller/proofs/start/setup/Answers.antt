@@ -3,7 +3,6 @@ use mathlib.Core.Path.{sym, ◌∙◌}
 use borrow.Author.Tests.{le-leb, lt-leb}
 use Rattle.controller.specs.Start.{setup}
 use Rattle.state.proofs.Validated.{limited_limits}
-use borrow.Author.Rules.{rules}
 use Rattle.controller.proofs.start.setup.Goals as goal
 
 pub returns-in_default : goal.returns-in_default

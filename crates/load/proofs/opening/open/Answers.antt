@@ -1,5 +1,4 @@
 -- `load::opening::open` meets its contract. Assumes nothing.
-use borrow.Author.Rules.{rules}
 use Rattle.load.specs.Load.{opened_as}
 use Rattle.load.proofs.opening.open.Goals as goal
 

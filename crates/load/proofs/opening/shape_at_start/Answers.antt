@@ -1,5 +1,4 @@
 -- `load::opening::shape_at_start` meets its contract. Assumes nothing.
-use borrow.Author.Rules.{rules}
 use Rattle.load.specs.Load.{shape_found}
 use Rattle.load.proofs.opening.shape_at_start.Goals as goal
 

@@ -2,7 +2,6 @@
 use mathlib.Core.Path.{sym, ◌∙◌}
 use native.Mathlib.Omega.{arith}
 use Rattle.load.proofs.Numbers.{small_found, one_group}
-use borrow.Author.Rules.{rules}
 use Rattle.load.proofs.reading.flags_at.Goals as goal
 
 pub returns : goal.returns

@@ -1,5 +1,4 @@
 -- `load::reading::lawful_record` meets its contract. Assumes nothing.
-use borrow.Author.Rules.{rules}
 use Rattle.load.proofs.reading.lawful_record.Goals as goal
 
 pub returns-then-number_lawful : goal.returns-then-number_lawful

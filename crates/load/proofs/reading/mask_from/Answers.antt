@@ -1,5 +1,4 @@
 -- `load::reading::mask_from` meets its contract. Assumes nothing.
-use borrow.Author.Rules.{rules}
 use borrow.Author.Tests.{eq-eqb, ne_eqb}
 use Rattle.load.proofs.reading.mask_from.Goals as goal
 

@@ -1,5 +1,4 @@
 -- `load::reading::number_lawful` meets its contract. Assumes nothing.
-use borrow.Author.Rules.{rules}
 use Rattle.load.proofs.reading.number_lawful.Goals as goal
 
 pub returns : goal.returns

@@ -1,5 +1,4 @@
 -- `load::reading::number_up_to` meets its contract. Assumes nothing.
-use borrow.Author.Rules.{rules}
 use borrow.Author.Tests.{le-leb, lt-leb}
 use Rattle.load.proofs.reading.number_up_to.Goals as goal
 

@@ -1,5 +1,4 @@
 -- `load::reading::own_owner` meets its contract. Assumes nothing.
-use borrow.Author.Rules.{rules}
 use Rattle.load.proofs.reading.own_owner.Goals as goal
 
 pub returns-then-inflight : goal.returns-then-inflight

@@ -1,6 +1,5 @@
 -- `load::reading::private_at` meets its contract. Assumes nothing.
 use native.Mathlib.Omega.{arith}
-use borrow.Author.Rules.{rules}
 use Rattle.load.specs.Reading.{record_found}
 use Rattle.load.proofs.Numbers.{within}
 use Rattle.load.proofs.reading.private_at.Goals as goal

@@ -1,6 +1,5 @@
 -- `load::reading::record_from` meets its contract. Assumes nothing.
 use native.Mathlib.Nat.{div-one}
-use borrow.Author.Rules.{rules}
 use Rattle.load.proofs.reading.record_from.Goals as goal
 
 pub returns : goal.returns

@@ -1,5 +1,4 @@
 -- `load::reading::register_at` meets its contract. Assumes nothing.
-use borrow.Author.Rules.{rules}
 use borrow.Author.Tests.{eq-eqb, ne_eqb}
 use Rattle.load.proofs.reading.register_at.Goals as goal
 

@@ -1,5 +1,4 @@
 -- `load::reading::registers_at` meets its contract. Assumes nothing.
-use borrow.Author.Rules.{rules}
 use Rattle.load.specs.Reading.{registers_at}
 use Rattle.load.proofs.reading.registers_at.Goals as goal
 

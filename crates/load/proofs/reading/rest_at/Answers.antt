@@ -1,5 +1,4 @@
 -- `load::reading::rest_at` meets its contract. Assumes nothing.
-use borrow.Author.Rules.{rules}
 use borrow.Author.Tests.{lt-ltb}
 use Rattle.load.specs.Reading.{rest_at}
 use Rattle.load.proofs.reading.rest_at.Goals as goal

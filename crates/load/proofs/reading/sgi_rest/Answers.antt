@@ -1,6 +1,5 @@
 -- `load::reading::sgi_rest` meets its contract. Assumes nothing.
 use native.Mathlib.Omega.{arith}
-use borrow.Author.Rules.{rules}
 use Rattle.load.specs.Reading.{sgi_rest}
 use Rattle.load.proofs.Numbers.{within}
 use Rattle.load.proofs.reading.sgi_rest.Goals as goal

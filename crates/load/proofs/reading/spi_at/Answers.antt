@@ -5,7 +5,6 @@ use borrow.Author.Tests.{not-true, not-false}
 use Rattle.load.specs.Reading.{record_found}
 use Rattle.load.proofs.Numbers.{within}
 use Rattle.load.proofs.Spis.{spi_no_owner, spi_no_mask, spi_read}
-use borrow.Author.Rules.{rules}
 use Rattle.std.proofs.lemmas.Bool.{not_from_true, not_from_false}
 use Rattle.load.proofs.reading.spi_at.Goals as goal
 

@@ -1,7 +1,6 @@
 -- `load::reading::spi_lawful` meets its contract. Assumes nothing.
 use native.Mathlib.Omega.{arith}
 use Rattle.word.proofs.Gathered.{one_shifted}
-use borrow.Author.Rules.{rules}
 use Rattle.load.proofs.reading.spi_lawful.Goals as goal
 
 pub returns : goal.returns

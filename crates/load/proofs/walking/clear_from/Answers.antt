@@ -1,14 +1,11 @@
 -- `load::walking::clear_from` meets its contract. Assumes nothing.
 use mathlib.Core.Path.{◌≡◌, ◌∙◌}
-use Prim.Native.Nat.{◌+◌, ◌-◌, ◌≤◌}
 use native.Mathlib.Numerals.{add-one}
 use native.Mathlib.Omega.{arith}
-use lib.ListN.{length}
 use borrow.Author.Rules.{rules}
 use Rattle.state.specs.Layout.{stack_capacity}
 use Rattle.state.specs.Loop.{up_to}
-use Rattle.state.specs.Words.{without_entry}
-use Rattle.load.specs.Walking.{cleared_past, cleared_from}
+use Rattle.load.specs.Walking.{cleared_from}
 use Rattle.load.proofs.Walks.{cleared_by_test}
 use Rattle.load.proofs.walking.clear_from.Goals as goal
 

@@ -1,6 +1,5 @@
 -- `load::walking::clear_past` meets its contract. Assumes nothing.
 use Rattle.load.proofs.Walks.{past_cleared, past_kept}
-use borrow.Author.Rules.{rules}
 use Rattle.load.proofs.walking.clear_past.Goals as goal
 
 pub returns-then-depth-i : goal.returns-then-depth-i

@@ -1,5 +1,4 @@
 -- `load::walking::put_registers` meets its contract. Assumes nothing.
-use borrow.Author.Rules.{rules}
 use Rattle.load.proofs.walking.put_registers.Goals as goal
 
 pub returns : goal.returns

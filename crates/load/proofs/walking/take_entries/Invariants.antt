@@ -1,13 +1,8 @@
 use mathlib.Core.Bool.{cond}
-use mathlib.Core.Path.{◌≡◌, refl, sym, ◌∙◌}
+use mathlib.Core.Path.{◌≡◌}
 use Prim.Native.Nat.{◌-◌, ◌≤◌}
-use native.Mathlib.Omega.{arith}
 use lib.ListN.{length}
-use borrow.Author.Rules.{rules}
-use Rattle.state.specs.Loop.{up_to}
-use Rattle.state.specs.Words.{with_entry}
 use Rattle.load.specs.Walking.{spot, entry_spot, entries_stored}
-use Rattle.load.proofs.Walks.{cond_same, stored_on, still_room, entry_taken, entry_refused}
 use Rattle.load.proofs.walking.take_entries.Given as goal
 
 abbrev pub invariant-loop-i : goal.invariant-loop-i

@@ -1,14 +1,8 @@
-use mathlib.Core.Path.{◌≡◌, refl, sym, ◌∙◌}
-use Prim.Native.Nat.{◌+◌, ◌-◌, ◌≤◌}
-use native.Mathlib.Omega.{arith}
+use mathlib.Core.Path.{◌≡◌}
+use Prim.Native.Nat.{◌-◌, ◌≤◌}
 use lib.ListN.{length}
-use borrow.Author.Rules.{rules}
-use Rattle.image.specs.Parts.{Registers}
-use Rattle.load.specs.declared.walking.Place.TheVariants.{At, Refused}
+use Rattle.load.specs.declared.walking.Place.TheVariants.{At}
 use Rattle.load.specs.Walking.{Section}
-use Rattle.load.proofs.Walks.{still_room}
-use Rattle.load.proofs.Sections.{section_none, section_part, section_then, section_refused}
-use Rattle.image.proofs.Cases.{registers_part}
 use Rattle.load.proofs.walking.take_interfaces.Given as goal
 
 abbrev pub invariant-loop-v : goal.invariant-loop-v

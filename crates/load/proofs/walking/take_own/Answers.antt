@@ -1,12 +1,10 @@
 -- `load::walking::take_own` meets its contract. Assumes nothing.
 use mathlib.Core.Path.{◌≡◌, refl, sym, ◌∙◌}
-use Prim.Native.Nat.{◌+◌, ◌*◌, ◌-◌, ◌≤◌}
+use Prim.Native.Nat.{◌+◌, ◌*◌}
 use native.Mathlib.Omega.{arith}
-use lib.ListN.{length}
 use borrow.Author.Rules.{rules}
 use Rattle.image.specs.Parts.{Interrupt}
-use Rattle.load.specs.declared.walking.Place.TheVariants.{At, Refused}
-use Rattle.load.specs.Walking.{Section}
+use Rattle.load.specs.declared.walking.Place.TheVariants.{Refused}
 use Rattle.load.proofs.Walks.{still_room}
 use Rattle.load.proofs.Sections.{section_none, section_part, section_then, section_refused}
 use Rattle.image.proofs.Cases.{private_part}

@@ -1,7 +1,6 @@
 -- `load::walking::take_private` meets its contract. Assumes nothing.
 use mathlib.Core.Path.{sym, ◌∙◌}
 use native.Mathlib.Omega.{arith}
-use borrow.Author.Rules.{rules}
 use Rattle.load.proofs.Walks.{cond_same}
 use Rattle.load.proofs.walking.take_private.Goals as goal
 

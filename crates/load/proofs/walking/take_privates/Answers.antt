@@ -1,11 +1,8 @@
 -- `load::walking::take_privates` meets its contract. Assumes nothing.
 use mathlib.Core.Path.{◌≡◌, refl}
-use Prim.Native.Nat.{◌+◌, ◌*◌, ◌-◌, ◌≤◌}
+use Prim.Native.Nat.{◌+◌, ◌*◌}
 use native.Mathlib.Omega.{arith}
-use lib.ListN.{length}
 use borrow.Author.Rules.{rules}
-use Rattle.load.specs.declared.walking.Place.TheVariants.{At}
-use Rattle.load.specs.Walking.{Section}
 use Rattle.load.proofs.Walks.{still_room}
 use Rattle.load.proofs.Sections.{section_none, section_then, section_refused}
 use Rattle.load.proofs.walking.take_privates.Goals as goal

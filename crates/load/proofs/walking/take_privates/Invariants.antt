@@ -1,12 +1,8 @@
-use mathlib.Core.Path.{◌≡◌, refl}
-use Prim.Native.Nat.{◌+◌, ◌*◌, ◌-◌, ◌≤◌}
-use native.Mathlib.Omega.{arith}
+use mathlib.Core.Path.{◌≡◌}
+use Prim.Native.Nat.{◌*◌, ◌-◌, ◌≤◌}
 use lib.ListN.{length}
-use borrow.Author.Rules.{rules}
 use Rattle.load.specs.declared.walking.Place.TheVariants.{At}
 use Rattle.load.specs.Walking.{Section}
-use Rattle.load.proofs.Walks.{still_room}
-use Rattle.load.proofs.Sections.{section_none, section_then, section_refused}
 use Rattle.load.proofs.walking.take_privates.Given as goal
 
 abbrev pub invariant-loop-v : goal.invariant-loop-v

@@ -1,6 +1,5 @@
 -- `load::walking::take_registers` meets its contract. Assumes nothing.
 use mathlib.Core.Path.{sym, ◌∙◌}
-use borrow.Author.Rules.{rules}
 use Rattle.load.proofs.Walks.{cond_same}
 use Rattle.load.proofs.walking.take_registers.Goals as goal
 

@@ -3,7 +3,6 @@ use mathlib.Core.Path.{sym, ◌∙◌}
 use native.Mathlib.Omega.{arith}
 use borrow.Author.Tests.{le-ltb}
 use Rattle.load.proofs.Walks.{cond_same}
-use borrow.Author.Rules.{rules}
 use Rattle.load.proofs.walking.take_spi.Goals as goal
 
 pub returns-in_default : goal.returns-in_default

@@ -3,7 +3,6 @@ use Prim.Native.Nat.{◌+◌}
 use native.Mathlib.Omega.{arith}
 use borrow.Author.Tests.{le-leb, lt-leb}
 use Rattle.message_frame.specs.MessageFrame.{decoded_window}
-use borrow.Author.Rules.{rules}
 use Rattle.message_frame.proofs.Window.new.Goals as goal
 
 pub returns-then-first-lt32 : goal.returns-then-first-lt32

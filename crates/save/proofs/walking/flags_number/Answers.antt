@@ -2,7 +2,6 @@
 use mathlib.Core.Bool.{Bool, not}
 use mathlib.Core.Path.{ap, ◌∙◌}
 use native.Mathlib.Omega.{arith}
-use borrow.Author.Rules.{rules}
 use Rattle.image.specs.Image.{flags_number}
 use Rattle.word.specs.Word.{bit_of}
 use Rattle.save.proofs.walking.flags_number.Goals as goal

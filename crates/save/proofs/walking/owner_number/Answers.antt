@@ -1,7 +1,6 @@
 -- `save::walking::owner_number` meets its contract. Assumes nothing.
 use mathlib.Core.Path.{subst}
 use native.Mathlib.Omega.{arith}
-use borrow.Author.Rules.{rules}
 use Rattle.word.specs.Word.{owner_in_range}
 use Rattle.save.proofs.walking.owner_number.Goals as goal
 

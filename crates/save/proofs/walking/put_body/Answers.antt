@@ -1,5 +1,4 @@
 -- `save::walking::put_body` meets its contract. Assumes nothing.
-use borrow.Author.Rules.{rules}
 use Rattle.image.specs.Image.{body_numbers}
 use Rattle.save.proofs.Pieces.{fits_first, fits_next, wrote_more}
 use Rattle.save.proofs.walking.put_body.Goals as goal

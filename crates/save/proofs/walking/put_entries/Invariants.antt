@@ -1,10 +1,6 @@
 use Prim.Native.Nat.{◌-◌, ◌≤◌}
-use native.Mathlib.Omega.{arith}
-use borrow.Author.Rules.{rules}
 use Rattle.groups.specs.Groups.{spelled, Wrote}
-use Rattle.groups.proofs.Writing.{wrote_length}
 use Rattle.save.specs.Fitting.{entries_numbers}
-use Rattle.save.proofs.Pieces.{loop_starts, loop_fits, loop_goes, loop_ends}
 use Rattle.save.proofs.walking.put_entries.Given as goal
 
 abbrev pub invariant-loop-i : goal.invariant-loop-i

@@ -1,11 +1,7 @@
 -- `save::walking::put_interfaces` meets its contract. Assumes nothing.
-use Prim.Native.Nat.{◌-◌, ◌≤◌}
 use native.Mathlib.Omega.{arith}
-use borrow.Author.Rules.{rules}
-use Rattle.groups.specs.Groups.{spelled, Wrote}
 use Rattle.groups.proofs.Writing.{wrote_length}
 use Rattle.service.proofs.Soundness.{sound_served}
-use Rattle.image.specs.Image.{each, interface_numbers}
 use Rattle.save.proofs.Pieces.{loop_starts, loop_fits, loop_goes, loop_ends}
 use Rattle.save.proofs.walking.put_interfaces.Goals as goal
 

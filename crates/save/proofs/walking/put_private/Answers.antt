@@ -3,7 +3,6 @@ use mathlib.Core.Path.{sym, ◌∙◌}
 use Prim.Native.Nat.{◌<◌}
 use native.Mathlib.Omega.{arith}
 use borrow.Author.Tests.{ltb-true}
-use borrow.Author.Rules.{rules}
 use Rattle.save.proofs.Pieces.{number_fits, number_wrote, fits_first, fits_next, wrote_more}
 use Rattle.save.proofs.walking.put_private.Goals as goal
 

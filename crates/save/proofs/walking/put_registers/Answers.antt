@@ -1,6 +1,5 @@
 -- `save::walking::put_registers` meets its contract. Assumes nothing.
 use native.Mathlib.Omega.{arith}
-use borrow.Author.Rules.{rules}
 use Rattle.save.proofs.walking.put_registers.Goals as goal
 
 pub put_three-requires : goal.put_three-requires

@@ -1,6 +1,5 @@
 -- `save::walking::put_service` meets its contract. Assumes nothing.
 use native.Mathlib.Omega.{arith}
-use borrow.Author.Rules.{rules}
 use Rattle.save.proofs.Pieces.{number_fits, number_wrote, fits_first, fits_next, wrote_more}
 use Rattle.save.proofs.walking.put_service.Goals as goal
 

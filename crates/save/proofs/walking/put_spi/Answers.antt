@@ -1,6 +1,5 @@
 -- `save::walking::put_spi` meets its contract. Assumes nothing.
 use native.Mathlib.Omega.{arith}
-use borrow.Author.Rules.{rules}
 use Rattle.word.proofs.RecordWord.{decoded_in_range}
 use Rattle.save.proofs.Pieces.{fits_first, fits_next, wrote_more}
 use Rattle.save.proofs.walking.put_spi.Goals as goal

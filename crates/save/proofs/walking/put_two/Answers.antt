@@ -1,6 +1,5 @@
 -- `save::walking::put_two` meets its contract. Assumes nothing.
 use mathlib.Core.List.{[], ◌∷◌}
-use borrow.Author.Rules.{rules}
 use Rattle.save.proofs.Pieces.{number_fits, number_wrote, fits_first, fits_next, wrote_more}
 use Rattle.save.proofs.walking.put_two.Goals as goal
 

@@ -1,7 +1,0 @@
--- `input::signal_record` meets its contract. Assumes nothing.
-use mathlib.Core.Path.{◌∙◌}
-use borrow.Author.Rules.{rules}
-use Rattle.input.proofs.signal_record.Goals as goal
-
-pub returns : goal.returns
-returns c = c.put_record.ensures ∙ simp (c.signalled-changed.ensures, c.«record».ensures)
