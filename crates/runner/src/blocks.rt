@@ -89,7 +89,8 @@ pub fn feed_rest(words: &mut [u32], line: &[u8], begun: usize, out: &mut [u8]) -
     requires { RoomToAnswer begun line.now 0 out.old }
     ensures { Prints (rest_printed (take begun line.now) words.old) 0 words.new out.old out.new result }
 {
-    if 0 < begun {
+    let is_begun = 0 < begun;
+    if is_begun {
         return answer_line(words, &line[..begun], out, 0);
     }
     0

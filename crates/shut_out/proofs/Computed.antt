@@ -1,6 +1,7 @@
--- Who keeps the promises is of none of the five kinds: for each kind a history, computed, that it does not answer so. Assumes nothing.
+-- Who keeps the promises is of none of the five kinds: for each kind a history, computed, that it does not answer so; of the last two kinds
+-- the theorems stand in TwoKinds.antt. Assumes nothing.
 use mathlib.Core.Path.{◌≡◌, refl, sym, ap, ◌∙◌}
-use mathlib.Core.Bool.{Bool, true, ◌&&◌, true≢false}
+use mathlib.Core.Bool.{Bool, true, ◌&&◌}
 use mathlib.Core.List.{List, [], ◌∷◌}
 use mathlib.Core.Logic.{◌⊎◌, inl, inr}
 use Prim.Native.Nat.{ℕ}
@@ -13,15 +14,15 @@ use Rattle.answer.specs.Answer.{Outcome, gave}
 use Rattle.history.specs.History.{Call, Setup, ReadDistributor, WriteDistributor, WriteCpuInterface, called, iar_read}
 use Rattle.corners.specs.Corners.{zeros}
 use Rattle.corners.proofs.Started.{started, setup_started, computing}
-use Rattle.shut_out.specs.ShutOut.{Behaviour, all_in_scope, admitted, KeepsPromises, behaved, History, words_after, Frame, Distributor, CpuInterface, Access, read_call, write_call, Refuser, ReadsNothing, IgnoresWrites, gave_number, OneShot, PointForShow}
+use Rattle.shut_out.specs.ShutOut.{Behaviour, all_in_scope, admitted, KeepsPromises, behaved, History, words_after, Frame, Distributor, CpuInterface, Access, read_call, write_call, Refuser, ReadsNothing, IgnoresWrites, gave_number}
 
 -- the calls of a row and then one more are such as the types admit
-abbrev all_admitted : List Call → Call → List ℕ → Bool
+abbrev pub all_admitted : List Call → Call → List ℕ → Bool
 all_admitted [] c s = admitted c s
 all_admitted (d ∷ cs) c s = admitted d s && all_admitted cs c (called d s).state
 
 -- who keeps the promises answers that one as they say
-promised : (f : Behaviour) → KeepsPromises f → (cs : List Call) (c : Call) (s : List ℕ) → all_admitted cs c s ≡ true → f c (behaved f cs s) ≡ called c (behaved called cs s)
+pub promised : (f : Behaviour) → KeepsPromises f → (cs : List Call) (c : Call) (s : List ℕ) → all_admitted cs c s ≡ true → f c (behaved f cs s) ≡ called c (behaved called cs s)
 unfolding behaved
 promised f m [] c s p = m c s p
 promised f m (d ∷ cs) c s p =
@@ -29,20 +30,20 @@ promised f m (d ∷ cs) c s p =
     rw (m d s (left_true (admitted d s) rest p)) (promised f m cs c (called d s).state (right_true (admitted d s) rest p))
 
 -- one vCPU and no SPI, in words that were 0 and are just enough
-abbrev words : List ℕ
+abbrev pub words : List ℕ
 words = zeros (size (shaped 1 32))
 
-abbrev history : (cs : List Call) → all_in_scope cs ≡ true → History
+abbrev pub history : (cs : List Call) → all_in_scope cs ≡ true → History
 history cs p = record { count = 1; limit = 32; lent = words; calls = cs; in_scope = p }
 
-abbrev begun : List ℕ
+abbrev pub begun : List ℕ
 begun = started (shaped 1 32) words
 
 set_up : (f : Behaviour) → KeepsPromises f → f (Setup 1 32) words ≡ gave 0 begun
 unfolding zeros
 set_up f m = m (Setup 1 32) words refl ∙ setup_started 1 32 words refl refl
 
-from_setup : (f : Behaviour) → KeepsPromises f → (cs : List Call) (within : all_in_scope cs ≡ true) (c : Call) → all_admitted cs c begun ≡ true
+pub from_setup : (f : Behaviour) → KeepsPromises f → (cs : List Call) (within : all_in_scope cs ≡ true) (c : Call) → all_admitted cs c begun ≡ true
     → f c (words_after f (history cs within)) ≡ called c (behaved called cs begun)
 unfolding behaved
 from_setup f m cs within c p = rw (set_up f m) (promised f m cs c begun p)
@@ -90,10 +91,10 @@ no_deaf_controller frame f m k = differ (sym (kept f m frame) ∙ k (history [] 
     differ e = omega (arith, e)
 
 -- both CTLRs and PMR are written and SGI 5 is rung; it is given; it is ended and rung again; it is given again
-ring : Call
+unfoldable pub ring : Call
 ring = WriteDistributor 0 0xf00 Dword 0x02000005
 
-before : List Call
+unfoldable pub before : List Call
 before =
     WriteDistributor 0 0x000 Dword 1
     ∷ WriteCpuInterface 0 0x00 Dword 1
@@ -101,32 +102,25 @@ before =
     ∷ ring
     ∷ []
 
-between : List Call
+unfoldable pub between : List Call
 between = WriteCpuInterface 0 0x10 Dword 5 ∷ ring ∷ []
 
-abbrev first : Outcome
+abbrev pub first : Outcome
 first = called (iar_read 0) (behaved called before begun)
 
-abbrev second : Outcome
+abbrev pub second : Outcome
 second = called (iar_read 0) (behaved called between first.state)
 
-first_given : gave_number first ≡ true
+pub first_given : gave_number first ≡ true
 unfolding behaved ring before zeros computing
 first_given = refl
 
-second_given : gave_number second ≡ true
+pub second_given : gave_number second ≡ true
 unfolding behaved ring before between zeros computing
 second_given = refl
 
-pub no_one_shot : (f : Behaviour) → KeepsPromises f → OneShot f → ⊥
-unfolding behaved ring before between zeros computing
-no_one_shot f m k =
-    let e : f (iar_read 0) (words_after f (history before refl)) ≡ first = from_setup f m before refl (iar_read 0) refl in
-    let d : f (iar_read 0) (behaved f between first.state) ≡ second = promised f m between (iar_read 0) first.state refl in
-    true≢false (sym (ap gave_number d ∙ second_given) ∙ (rw e at (k (history before refl) 0 between (ap gave_number e ∙ first_given) refl refl)))
-
 -- SGI 5 of priority 4 is served, and SGI 6 of priority 5 waits: by binary point 0 they are of one group, by 2 the group of SGI 6 is 0
-serving : List Call
+unfoldable pub serving : List Call
 serving =
     WriteDistributor 0 0x000 Dword 1
     ∷ WriteCpuInterface 0 0x00 Dword 1
@@ -137,14 +131,14 @@ serving =
     ∷ WriteDistributor 0 0xf00 Dword 0x02000006
     ∷ []
 
-set_point : Call
+unfoldable pub set_point : Call
 set_point = WriteCpuInterface 0 0x08 Dword 2
 
-given_by_2 : (called (iar_read 0) (called set_point (behaved called serving begun)).state).value ≡ 6
+pub given_by_2 : (called (iar_read 0) (called set_point (behaved called serving begun)).state).value ≡ 6
 unfolding behaved ring serving set_point zeros computing
 given_by_2 = refl
 
-waits_by_0 : (called (iar_read 0) (behaved called serving begun)).value ≡ 1023
+pub waits_by_0 : (called (iar_read 0) (behaved called serving begun)).value ≡ 1023
 unfolding behaved ring serving zeros computing
 waits_by_0 = refl
 
@@ -152,14 +146,3 @@ waits_by_0 = refl
 a_bpr_write_wakes : (called set_point (behaved called serving begun)).wake ≡ 1
 unfolding behaved ring serving set_point zeros computing
 a_bpr_write_wakes = refl
-
-pub no_point_for_show : (f : Behaviour) → KeepsPromises f → PointForShow f → ⊥
-unfolding behaved ring serving set_point zeros computing
-no_point_for_show f m k =
-    let set : f set_point (words_after f (history serving refl)) ≡ called set_point (behaved called serving begun) = from_setup f m serving refl set_point refl in
-    let waits : f (iar_read 0) (words_after f (history serving refl)) ≡ called (iar_read 0) (behaved called serving begun) = from_setup f m serving refl (iar_read 0) refl in
-    let given : f (iar_read 0) (called set_point (behaved called serving begun)).state ≡ called (iar_read 0) (called set_point (behaved called serving begun)).state = m (iar_read 0) (called set_point (behaved called serving begun)).state refl in
-    differ (sym given_by_2 ∙ sym (ap (λ (o : Outcome). o.value) given) ∙ (rw set at (k (history serving refl) 0 2)) ∙ ap (λ (o : Outcome). o.value) waits ∙ waits_by_0)
-  where
-    differ : ◌≡◌ {A = ℕ} 6 1023 → ⊥
-    differ e = omega (arith, e)

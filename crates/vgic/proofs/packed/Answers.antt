@@ -1,6 +1,5 @@
 -- `vgic::packed` meets its contract. Assumes nothing.
 use Rattle.vgic.specs.Packed.{packed_answer}
-use borrow.Author.Rules.{rules}
 use Rattle.vgic.proofs.packed.Goals as goal
 
 pub returns : goal.returns

@@ -1,7 +1,6 @@
 -- `vgic::vgic_image_bytes` meets its contract. Assumes nothing.
 use mathlib.Core.Path.{sym, ◌∙◌}
 use Rattle.state.proofs.Validated.{limited_limits}
-use borrow.Author.Rules.{rules}
 use Rattle.vgic.proofs.vgic_image_bytes.Goals as goal
 
 pub image_bytes-requires : goal.image_bytes-requires

@@ -1,6 +1,5 @@
 -- `vgic::vgic_image_shape` meets its contract. Assumes nothing.
 use Rattle.vgic.proofs.Packing.{answers}
-use borrow.Author.Rules.{rules}
 use Rattle.vgic.proofs.vgic_image_shape.Goals as goal
 
 pub returns : goal.returns

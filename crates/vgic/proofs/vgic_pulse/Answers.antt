@@ -1,6 +1,5 @@
 -- `vgic::vgic_pulse` meets its contract. Assumes nothing.
 use Rattle.vgic.proofs.Packing.{answers}
-use borrow.Author.Rules.{rules}
 use Rattle.vgic.proofs.vgic_pulse.Goals as goal
 
 pub returns : goal.returns

@@ -3,7 +3,6 @@ use mathlib.Core.Path.{◌∙◌}
 use Rattle.register.specs.declared.frame.Refusal.TheVariants.{Width}
 use Rattle.answer.specs.declared.Answer.TheVariants.{Refused}
 use Rattle.vgic.proofs.Packing.{answers}
-use borrow.Author.Rules.{rules}
 use Rattle.vgic.proofs.vgic_read_v2_distributor.Goals as goal
 
 pub returns-in_default : goal.returns-in_default

@@ -1,6 +1,5 @@
 -- `vgic::vgic_save` meets its contract. Assumes nothing.
 use Rattle.vgic.proofs.Packing.{saves}
-use borrow.Author.Rules.{rules}
 use Rattle.vgic.proofs.vgic_save.Goals as goal
 
 pub returns : goal.returns

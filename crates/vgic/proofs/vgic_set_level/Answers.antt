@@ -1,6 +1,5 @@
 -- `vgic::vgic_set_level` meets its contract. Assumes nothing.
 use Rattle.vgic.proofs.Packing.{answers}
-use borrow.Author.Rules.{rules}
 use Rattle.vgic.proofs.vgic_set_level.Goals as goal
 
 pub returns : goal.returns

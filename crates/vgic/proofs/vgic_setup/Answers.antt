@@ -1,6 +1,5 @@
 -- `vgic::vgic_setup` meets its contract. Assumes nothing.
 use Rattle.vgic.proofs.Packing.{answers}
-use borrow.Author.Rules.{rules}
 use Rattle.vgic.proofs.vgic_setup.Goals as goal
 
 pub returns : goal.returns

@@ -1,7 +1,6 @@
 -- `vgic::vgic_state_words` meets its contract. Assumes nothing.
 use mathlib.Core.Path.{sym, ◌∙◌}
 use Rattle.state.proofs.Validated.{limited_limits}
-use borrow.Author.Rules.{rules}
 use Rattle.vgic.proofs.vgic_state_words.Goals as goal
 
 pub size-requires : goal.size-requires

@@ -1,4 +1,4 @@
-use Rattle.std.proofs.Common.{refl, arith}
+use Rattle.std.proofs.Common.{arith}
 use Rattle.runner.proofs.Running.{went_none, went_then, slice_join, moves}
 use Rattle.vgicrun.proofs.answer_block.Goals as goal
 

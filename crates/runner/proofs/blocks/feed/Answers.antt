@@ -1,13 +1,10 @@
 -- `runner::feed` meets its contract: at each turn the bytes so far were run. Assumes nothing.
 use mathlib.Core.Logic.{inl, inr}
-use mathlib.Core.Path.{◌≡◌, refl, ◌∙◌}
-use Prim.Native.Nat.{◌-◌, ◌≤◌}
+use mathlib.Core.Path.{refl, ◌∙◌}
 use native.Mathlib.Omega.{arith}
-use lib.ListN.{length}
-use lib.Seq.{slice, slice_empty}
+use lib.Seq.{slice_empty}
 use borrow.Author.Rules.{rules}
 use Rattle.script.proofs.Puts.{put_inside}
-use Rattle.runner.specs.Feeding.{Ran}
 use Rattle.runner.proofs.Running.{ran_none, ran_then, slice_more}
 use Rattle.runner.proofs.blocks.feed.Goals as goal
 

@@ -1,13 +1,8 @@
-use mathlib.Core.Logic.{inl, inr}
-use mathlib.Core.Path.{◌≡◌, refl, ◌∙◌}
+use mathlib.Core.Path.{◌≡◌}
 use Prim.Native.Nat.{◌-◌, ◌≤◌}
-use native.Mathlib.Omega.{arith}
 use lib.ListN.{length}
-use lib.Seq.{slice, slice_empty}
-use borrow.Author.Rules.{rules}
-use Rattle.script.proofs.Puts.{put_inside}
+use lib.Seq.{slice}
 use Rattle.runner.specs.Feeding.{Ran}
-use Rattle.runner.proofs.Running.{ran_none, ran_then, slice_more}
 use Rattle.runner.proofs.blocks.feed.Given as goal
 
 abbrev pub invariant-loop-i : goal.invariant-loop-i

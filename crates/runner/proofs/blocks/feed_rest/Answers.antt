@@ -9,8 +9,8 @@ use Rattle.runner.proofs.blocks.feed_rest.Goals as goal
 pub slice_bounds-answer_line-end : goal.slice_bounds-answer_line-end
 slice_bounds-answer_line-end c = sym (length-take-le c.args.begun c.args.line.now (search rules))
 
-pub returns-then-begun-gt0 : goal.returns-then-begun-gt0
-returns-then-begun-gt0 c =
+pub returns-then-is_begun : goal.returns-then-is_begun
+returns-then-is_begun c =
     let a = c.args in
     rest_answered a.begun a.line.now a.words.now 0 a.out.now (search rules) (search rules) c.answer_line.ensures
 

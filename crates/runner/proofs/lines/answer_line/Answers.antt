@@ -1,6 +1,5 @@
 -- `runner::answer_line` meets its contract. Assumes nothing.
 use Rattle.runner.specs.Runner.{line_answer}
-use borrow.Author.Rules.{rules}
 use Rattle.runner.proofs.lines.answer_line.Goals as goal
 
 pub returns : goal.returns

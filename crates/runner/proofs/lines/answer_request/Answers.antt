@@ -2,7 +2,6 @@
 use mathlib.Core.Path.{refl}
 use Rattle.runner.specs.Runner.{request_printed}
 use Rattle.runner.proofs.Printing.{prints}
-use borrow.Author.Rules.{rules}
 use Rattle.runner.proofs.lines.answer_request.Goals as goal
 
 pub returns-in-Setup : goal.returns-in-Setup

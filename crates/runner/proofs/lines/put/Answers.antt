@@ -1,5 +1,4 @@
 -- `runner::put` meets its contract. Assumes nothing.
-use borrow.Author.Rules.{rules}
 use Rattle.runner.proofs.lines.put.Goals as goal
 
 pub returns : goal.returns
