@@ -35,7 +35,7 @@ input_of shape n = cond (not (is_sgi (record { 0 = n })) && ltb n shape.limit) (
 
 abbrev pub input_at : Shape → ℕ → Signal → InputNumber → List ℕ → Outcome
 input_at shape v signal Outside s = refused refusal.Input s
-input_at shape v signal (Device n) s = looked_up (is_private_id n) shape v s (signal_went shape v n.0 signal s)
+input_at shape v signal (Device n) s = looked_up (is_private_id n) shape v s (went shape 1023 s (changed shape v n.0 (signalled signal) s))
 
 unfoldable pub device_input : Signal → ℕ → ℕ → List ℕ → Outcome
 device_input signal v n s = on_state (validated s) s (λ shape. input_at shape v signal (input_of shape n) s)
