@@ -28,6 +28,7 @@ pub enum Read {
 }
 
 // `point` bits and one more are cleared: of all eight, 7 leaves none.
+#[tactic(auto, using(crate::proofs::Grouping::group_at_most, crate::proofs::Grouping::group_shifted))]
 fn group_priority(priority: Priority, point: u32) -> Priority
     requires { point < 8 }
     ensures { result.0 ≡ group_priority point priority.0 }
@@ -53,6 +54,7 @@ fn preempts(words: &[u32], shape: Shape, vcpu: GicVcpuId, candidate: Candidate) 
 }
 
 // Up to a whole group.
+#[tactic(auto, using(crate::proofs::Grouping::some_group, crate::proofs::Grouping::rest_small, crate::proofs::Grouping::rounded_shifted))]
 fn rounded_up(priority: Priority, point: u32) -> u32
     requires { point < 8 }
     ensures { result ≡ rounded_up point priority.0 }
@@ -64,6 +66,7 @@ fn rounded_up(priority: Priority, point: u32) -> u32
 }
 
 // A priority below it preempts what runs.
+#[tactic(auto, using(crate::proofs::Grouping::bound_small))]
 pub fn preemption_bound(words: &[u32], shape: Shape, vcpu: GicVcpuId) -> u32
     requires { Served shape vcpu.0 words.now }
     ensures { (result ≡ preemption_bound shape vcpu.0 words.now) × (result < 1024) }
@@ -89,6 +92,7 @@ fn preempting(words: &[u32], shape: Shape, vcpu: GicVcpuId, selected: Selected) 
 }
 
 // What an IAR read would hand out now.
+#[tactic(auto, unfolding(crate::specs::Acknowledge::offer))]
 pub fn offer(words: &[u32], shape: Shape, vcpu: GicVcpuId) -> Selected
     requires { Served shape vcpu.0 words.now }
     ensures { result ≡ offer shape vcpu.0 words.now }
@@ -124,6 +128,7 @@ fn sgi_source(words: &[u32], shape: Shape, vcpu: GicVcpuId, intid: IntId) -> Gic
     }
 }
 
+#[tactic(auto, using(state::proofs::Accessors::sources_same), unfolding(crate::specs::Acknowledge::pend_if_left))]
 fn leave_sources(words: &mut [u32], shape: Shape, vcpu: GicVcpuId, sgi: IntId, sources: u8)
     requires { HoldsSlot shape (Sources vcpu.0 sgi.0) words.old }
     ensures { words.new ≡ pend_if_left shape vcpu.0 sgi.0 (with_sources shape vcpu.0 sgi.0 sources words.old) }
@@ -134,6 +139,7 @@ fn leave_sources(words: &mut [u32], shape: Shape, vcpu: GicVcpuId, sgi: IntId, s
     }
 }
 
+#[tactic(auto, unfolding(crate::specs::Acknowledge::source_taken))]
 fn take_sgi_source(
     words: &mut [u32],
     shape: Shape,
@@ -150,6 +156,7 @@ fn take_sgi_source(
     }
 }
 
+#[tactic(auto, unfolding(crate::specs::Acknowledge::given_record))]
 fn given_record(record: InterruptRecord, vcpu: GicVcpuId) -> InterruptRecord
     ensures { result ≡ given_record vcpu.0 «record» }
 {

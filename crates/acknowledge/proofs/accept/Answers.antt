@@ -1,7 +1,6 @@
 -- `acknowledge::accept` meets its contract. Assumes nothing.
 use borrow.Author.Tests.{lt-ltb, le-ltb}
 use Rattle.acknowledge.specs.Acknowledge.{answered, taken}
-use borrow.Author.Rules.{rules}
 use Rattle.acknowledge.proofs.accept.Goals as goal
 
 pub returns-then-depth-lt-STACK_CAPACITY : goal.returns-then-depth-lt-STACK_CAPACITY

@@ -1,7 +1,6 @@
 -- `acknowledge::acknowledge_v2` meets its contract. Assumes nothing.
 use mathlib.Core.Path.{sym, ◌∙◌}
 use Rattle.acknowledge.specs.Acknowledge.{offer, answered, taken}
-use borrow.Author.Rules.{rules}
 use Rattle.acknowledge.proofs.acknowledge_v2.Goals as goal
 
 pub take_pending_delivery-requires : goal.take_pending_delivery-requires

@@ -1,7 +1,6 @@
 -- `acknowledge::give` meets its contract. Assumes nothing.
 -- the calls from the last to the first, each found from the one after it
 use Rattle.acknowledge.specs.Acknowledge.{given}
-use borrow.Author.Rules.{rules}
 use Rattle.acknowledge.proofs.give.Goals as goal
 
 pub returns : goal.returns

@@ -1,10 +1,9 @@
 -- `acknowledge::lowest_source` meets its contract. Assumes nothing.
-use Prim.Native.Nat.{◌≤◌, ◌-◌}
 use mathlib.Core.Path.{◌≡◌, sym, ◌∙◌}
 use native.Mathlib.Numerals.{add-one}
 use native.Mathlib.Omega.{arith}
 use borrow.Author.Tests.{eq-eqb, ne_eqb}
-use Rattle.acknowledge.specs.Acknowledge.{lowest_from, lowest_source}
+use Rattle.acknowledge.specs.Acknowledge.{lowest_from}
 use borrow.Author.Rules.{rules}
 use Rattle.acknowledge.proofs.Lowest.{lowest_found, lowest_next}
 use Rattle.acknowledge.proofs.lowest_source.Goals as goal

@@ -1,11 +1,6 @@
 use Prim.Native.Nat.{◌≤◌, ◌-◌}
-use mathlib.Core.Path.{◌≡◌, sym, ◌∙◌}
-use native.Mathlib.Numerals.{add-one}
-use native.Mathlib.Omega.{arith}
-use borrow.Author.Tests.{eq-eqb, ne_eqb}
+use mathlib.Core.Path.{◌≡◌}
 use Rattle.acknowledge.specs.Acknowledge.{lowest_from, lowest_source}
-use borrow.Author.Rules.{rules}
-use Rattle.acknowledge.proofs.Lowest.{lowest_found, lowest_next}
 use Rattle.acknowledge.proofs.lowest_source.Given as goal
 
 abbrev pub invariant-loop-i : goal.invariant-loop-i

@@ -1,7 +1,6 @@
 -- `acknowledge::take_pending_delivery` meets its contract. Assumes nothing.
 use mathlib.Core.Path.{sym, ◌∙◌}
 use Rattle.acknowledge.specs.Acknowledge.{answered, taken}
-use borrow.Author.Rules.{rules}
 use Rattle.acknowledge.proofs.Offers.{offer_below}
 use Rattle.acknowledge.proofs.take_pending_delivery.Goals as goal
 
