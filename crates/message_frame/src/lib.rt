@@ -49,6 +49,7 @@ pub enum MessageAccess {
 
 impl Window {
     // The end is compared as the room left, so that numbers near 2^64 wrap nothing.
+    #[tactic(auto, unfolding(crate::specs::MessageFrame::decoded_window))]
     pub fn new(shape: Shape, first: u64, count: u64) -> DecodedWindow
         ensures { result ≡ decoded_window shape first count }
     {

@@ -43,7 +43,8 @@ pub fn save(words: &[u32], buffer: &mut [u8]) -> Answer
     let Lent::Sound(shape) = validate_state(words) else {
         return Answer::Refused(Refusal::BrokenState);
     };
-    if !is_lawful(words, shape) {
+    let unlawful = !is_lawful(words, shape);
+    if unlawful {
         return Answer::Refused(Refusal::Unlawful);
     }
     if !has_room(buffer, words, shape) {

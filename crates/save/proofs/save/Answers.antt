@@ -7,11 +7,11 @@ use Rattle.save.proofs.save.Goals as goal
 pub returns-in_default : goal.returns-in_default
 returns-in_default c = search saved_broken
 
-pub is_lawful-requires : goal.is_lawful-requires
-is_lawful-requires c = search found_sound
+pub is_lawful-unlawful-requires : goal.is_lawful-unlawful-requires
+is_lawful-unlawful-requires c = search found_sound
 
-pub returns-then-not-is_lawful : goal.returns-then-not-is_lawful
-returns-then-not-is_lawful c = search saved_unlawful
+pub returns-then-unlawful : goal.returns-then-unlawful
+returns-then-unlawful c = search saved_unlawful
 
 pub has_room-requires : goal.has_room-requires
 has_room-requires c = search saved_lawful
@@ -22,7 +22,7 @@ returns-then-not-has_room c = search saved_refused
 pub put_image-length-requires : goal.put_image-length-requires
 put_image-length-requires c =
     let room = c.has_room.ensures in
-    let fit = saved_fits _ _ _ c.validate_state.ensures _ c.in-Sound.is _ c.is_lawful.ensures (not_from_true _ c.if-not-is_lawful.false) _ room.1 _ room.0 (not_from_true _ c.if-not-has_room.false) in
+    let fit = saved_fits _ _ _ c.validate_state.ensures _ c.in-Sound.is _ c.is_lawful-unlawful.ensures (not_from_true _ c.if-unlawful.false) _ room.1 _ room.0 (not_from_true _ c.if-not-has_room.false) in
     (search found_sound, fit)
 
 pub overflow_cast-length : goal.overflow_cast-length
