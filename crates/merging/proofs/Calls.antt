@@ -255,9 +255,10 @@ module _ (shape : Shape) (v : ℕ) (place : Place) (w : AccessWidth) (x : ℕ) (
   supposed (Bytes Ipriorityr) e d h = λ i b. tt
   supposed (Bytes Itargetsr) e d h = λ i b. tt
   supposed (Bytes Cpendsgir) e d h =
-      let both : lent.Sound shape ≡ lent.Sound d.shape = sym h ∙ held_validated s d.shape d.holds in
-      let same : shape ≡ d.shape = cc in
-      byte_needed Cpendsgir e (subst (λ (k : Shape). Orderly k s) (sym same) d.orderly)
+      let of_s : Described s = d in
+      let both : lent.Sound shape ≡ lent.Sound of_s.shape = sym h ∙ held_validated s of_s.shape of_s.holds in
+      let same : shape ≡ of_s.shape = cc in
+      byte_needed Cpendsgir e (subst (λ (k : Shape). Orderly k s) (sym same) of_s.orderly)
   supposed (Bytes Spendsgir) e d h = λ i b. tt
   supposed Other e d h = tt
 

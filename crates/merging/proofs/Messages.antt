@@ -1,9 +1,8 @@
 -- Two writes to the message frame may change places: the words after them are the same, whatever was lent, and whom they wake together is the same where
 -- the summary is exact. The same write again adds nothing. Assumes nothing.
 use mathlib.Core.Path.{◌≡◌, refl, sym, ap, subst, ◌∙◌}
-use mathlib.Core.Bool.{Bool, true, false, cond, ◌&&◌, false≢true}
+use mathlib.Core.Bool.{Bool, true, false, cond, false≢true}
 use mathlib.Core.List.{List}
-use mathlib.Core.Logic.{inl, inr}
 use Prim.Native.Nat.{ℕ, ◌%◌, ◌^◌}
 use lib.Bits.{bit_or}
 use Rattle.interrupt.specs.declared.record.InterruptRecord.{InterruptRecord}
@@ -24,7 +23,6 @@ use Rattle.state.proofs.Own.{apart_comm, changed_own}
 use Rattle.state.proofs.Ready.{Anywhere, Summed, summed_kept}
 use Rattle.state.proofs.Tests.{left_true, right_true}
 use Rattle.state.proofs.Validated.{held_validated}
-use Rattle.service.specs.Service.{Sound}
 use Rattle.service.proofs.Soundness.{validated_sound}
 use Rattle.wake.specs.Wake.{wake_set}
 use Rattle.wake.proofs.WakeSets.{none_wakes_nobody}
@@ -33,7 +31,7 @@ use Rattle.message_frame.specs.declared.MessageAccess.{MessageAccess}
 use Rattle.message_frame.specs.declared.MessageAccess.TheVariants.{Refused, At}
 use Rattle.message_frame.specs.MessageFrame.{is_window, window_of, locate_v2m}
 use Rattle.message_frame.proofs.Messages.{access_rings, message_rings, pulsed_if, ComesTo, message_comes_to}
-use Rattle.message_frame.proofs.Windows.{AnSpi, rung_spi}
+use Rattle.message_frame.proofs.Windows.{rung_spi}
 use Rattle.history.specs.History.{Call, WriteV2m, is_start, called}
 use Rattle.history.proofs.Calls.{call_valid}
 use Rattle.history.proofs.Each.{broken_call}

@@ -15,7 +15,7 @@ use Rattle.register.specs.declared.ranges.ByteRegister.TheVariants.{Itargetsr}
 use Rattle.register.specs.declared.ranges.Class.TheVariants.{Bits, Bytes}
 use Rattle.register.specs.declared.ranges.RegisterRange.{RegisterRange}
 use Rattle.register.specs.Distributor.{place_at, bit_word, byte_array, locate_in_frame, locate_distributor}
-use Rattle.register.specs.Frame.{bytes, is_qword, in_frame}
+use Rattle.register.specs.Frame.{is_qword, in_frame}
 use Rattle.register.specs.Ranges.{ranges, range_numbered, class_at}
 use Rattle.register.proofs.Map.{ranges_apart}
 use Rattle.lawful.specs.Lawful.{Controller}
