@@ -22,7 +22,6 @@ use Rattle.state.specs.Lent.{shaped, validated}
 use Rattle.state.specs.Words.{changed, kept_distributor_control, enable_bit, enabled_at}
 use Rattle.state.proofs.Starting.{fresh_length, fresh_word}
 use Rattle.select.specs.declared.Candidate.{Candidate}
-use Rattle.service.specs.Service.{Sound}
 use Rattle.service.proofs.Soundness.{validated_sound}
 use Rattle.acknowledge.specs.declared.Read.{Read}
 use Rattle.acknowledge.specs.declared.Read.TheVariants.{Value, StackFull}

@@ -3,13 +3,12 @@
 use mathlib.Core.Path.{◌≡◌, refl, sym, ap, ◌∙◌}
 use mathlib.Core.Bool.{false}
 use mathlib.Core.List.{List, [], ◌∷◌, ◌++◌}
-use Prim.Native.Nat.{ℕ, zero, suc, ◌≤◌, ◌<◌}
+use Prim.Native.Nat.{ℕ, zero, suc, ◌≤◌}
 use native.Mathlib.Omega.{arith}
 use lib.ListN.{length, get_or, set, drop, get_or-append}
 use lib.Seq.{set-append_left}
 use Rattle.state.specs.declared.layout.Shape.{Shape}
 use Rattle.state.specs.declared.lent.Lent.TheVariants.{Sound}
-use Rattle.state.specs.Layout.{Slot, place, Exists, Room}
 use Rattle.state.specs.Lent.{validated}
 use Rattle.state.proofs.Validated.{validated_held}
 use Rattle.history.specs.History.{Call, is_start, called}

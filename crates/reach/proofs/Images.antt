@@ -14,8 +14,6 @@ use Rattle.state.specs.declared.words.Entry.{Entry}
 use Rattle.state.specs.Layout.{Stack}
 use Rattle.state.specs.Loop.{every_below}
 use Rattle.state.specs.Words.{RecordThere, record_at, sources_at, entry_of, entry_at}
-use Rattle.state.proofs.Places.{Inner}
-use Rattle.state.proofs.Steps.{Agree}
 use Rattle.service.specs.Service.{depth_at, stack_to, running_of, Sound}
 use Rattle.interrupt.specs.Record.{is_ready}
 use Rattle.lawful_test.specs.LawfulTest.{implied, record_lawful, sources_lawful, number_lawful, entry_lawful, entry_lawful_at, stack_lawful, vcpu_lawful, says_same, spi_passes, is_lawful}
