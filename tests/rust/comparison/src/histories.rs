@@ -1,6 +1,6 @@
 //! Histories from setup on: the scripts' scenes, every place at every width in the midst of them, every count and limit, a full stack.
 use crate::{
-    Difference, Library, messages,
+    Difference, Library, Mix, messages,
     pair::Pair,
     request::{Place, Request},
 };
@@ -18,6 +18,7 @@ pub const NO_WIDTHS: [u64; 9] = [0, 3, 5, 6, 7, 16, (1 << 32) + 4, 1 << 63, u64:
 
 /// Scenes, and what plays in them.
 pub struct Scenes {
+    mix: Mix,
     random: Random,
     histories: Histories,
     /// Large scenes are slow, and most of them are not played.
@@ -28,10 +29,14 @@ pub struct Scenes {
 const LARGE: u64 = 200;
 
 impl Scenes {
-    pub fn new(seed: u64) -> Self {
+    pub fn new(mix: Mix, seed: u64) -> Self {
         Self {
+            mix,
             random: Random::new(!seed),
-            histories: Histories::with_messages(seed),
+            histories: match mix {
+                Mix::Plain => Histories::new(seed),
+                Mix::Messages => Histories::with_messages(seed),
+            },
             passed_over: false,
         }
     }
@@ -47,7 +52,12 @@ impl Scenes {
 
     /// The next call; at times before it the same at no width.
     fn step<L: Library>(&mut self, pair: &mut Pair<L>) -> Result<(), Difference> {
-        let Some(call) = lines::parse_with_messages(&self.histories.line()) else {
+        let line = self.histories.line();
+        let call = match self.mix {
+            Mix::Plain => lines::parse(&line),
+            Mix::Messages => lines::parse_with_messages(&line),
+        };
+        let Some(call) = call else {
             return Ok(());
         };
         if let Call::Setup { count, limit } = call
@@ -98,7 +108,7 @@ impl Scenes {
     }
 
     /// Words with anything in them, as many as are needed for the first call or some more; at times too few first, which take no message
-    /// either.
+    /// either, where there are messages.
     fn lend<L: Library>(
         &mut self,
         pair: &mut Pair<L>,
@@ -111,7 +121,9 @@ impl Scenes {
                 .pick(&[0, 1, 2, 3, 99, enough - STACK, enough - 1]);
             pair.lend(self.words(few));
             pair.call(first)?;
-            pair.call(&messages::any_request(&mut self.random, 40))?;
+            if self.mix == Mix::Messages {
+                pair.call(&messages::any_request(&mut self.random, 40))?;
+            }
         }
         let more = self.random.pick(&[0, 0, 0, 1, 8]);
         pair.lend(self.words(enough + more));

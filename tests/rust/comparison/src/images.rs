@@ -1,7 +1,7 @@
 //! Images: saved in the midst of histories, and of words with a bit changed; offered as they are, and changed in every way; and histories that
 //! go on with what was loaded.
 use crate::{
-    Difference, Library,
+    Difference, Library, Mix,
     histories::Scenes,
     pair::Pair,
     request::Request,
@@ -11,9 +11,14 @@ use model::edits::{self, Edit};
 use oracle::scripts::random::Random;
 
 /// So many calls of histories, saves and loads.
-pub fn play<L: Library>(pair: &mut Pair<L>, seed: u64, calls: u64) -> Result<(), Difference> {
+pub fn play<L: Library>(
+    pair: &mut Pair<L>,
+    mix: Mix,
+    seed: u64,
+    calls: u64,
+) -> Result<(), Difference> {
     let mut images = Images {
-        scenes: Scenes::new(seed.rotate_left(32)),
+        scenes: Scenes::new(mix, seed.rotate_left(32)),
         random: Random::new(seed.rotate_left(16)),
         earlier: vec![],
     };

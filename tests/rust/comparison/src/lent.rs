@@ -1,6 +1,6 @@
 //! Words that no history makes: any bits, any header, any length; and a few calls of them.
 use crate::{
-    Difference, Library, images, messages,
+    Difference, Library, Mix, images, messages,
     pair::Pair,
     request::{FramePlace, Place, Request},
     slots,
@@ -15,14 +15,22 @@ use oracle::{
 };
 
 /// So many calls of such words.
-pub fn play<L: Library>(pair: &mut Pair<L>, seed: u64, calls: u64) -> Result<(), Difference> {
+pub fn play<L: Library>(
+    pair: &mut Pair<L>,
+    mix: Mix,
+    seed: u64,
+    calls: u64,
+) -> Result<(), Difference> {
     let mut random = Random::new(seed);
     let end = pair.tally.calls + calls;
     while pair.tally.calls < end {
         let shape = Shape::any(&mut random);
         pair.lend(shape.words(&mut random));
         for _ in 0..1 + random.below(8) {
-            let request = shape.request(&mut random, pair.words());
+            let request = match mix {
+                Mix::Plain => shape.request(&mut random, pair.words()),
+                Mix::Messages => shape.request_or_message(&mut random, pair.words()),
+            };
             pair.call(&request)?;
         }
     }
@@ -188,17 +196,42 @@ impl Shape {
 
     fn request(self, random: &mut Random, words: &[u32]) -> Request {
         match random.below(100) {
+            at @ 0..54 => self.interface(random, words, at),
+            54..84 => self.distributor(random),
+            84..92 => self.input(random),
+            92..97 => self.anywhere(random),
+            at => self.whole(random, at),
+        }
+    }
+
+    /// The same with seven messages in a hundred, in the place of some others.
+    fn request_or_message(self, random: &mut Random, words: &[u32]) -> Request {
+        match random.below(100) {
+            at @ 0..54 => self.interface(random, words, at),
+            54..80 => self.distributor(random),
+            80..86 => self.input(random),
+            86..93 => self.message(random, words),
+            93..97 => self.anywhere(random),
+            at => self.whole(random, at),
+        }
+    }
+
+    /// A CPU interface's, 54 of a hundred.
+    fn interface(self, random: &mut Random, words: &[u32], at: u64) -> Request {
+        match at {
             0..22 => self.interface_read(random, &[GICC_IAR, GICC_IAR, GICC_AIAR]),
             22..28 => self.interface_read(
                 random,
                 &[GICC_HPPIR, GICC_RPR, GICC_CTLR, GICC_PMR, GICC_BPR],
             ),
             28..46 => self.end(random, words),
-            46..54 => self.interface_write(random),
-            54..80 => self.distributor(random),
-            80..86 => self.input(random),
-            86..93 => self.message(random, words),
-            93..97 => self.anywhere(random),
+            _ => self.interface_write(random),
+        }
+    }
+
+    /// The last three of a hundred, which are about all of the words.
+    fn whole(self, random: &mut Random, at: u64) -> Request {
+        match at {
             97 => self.save(random),
             98 => Request::Load(images::bytes(random).into()),
             _ => self.setup(random),

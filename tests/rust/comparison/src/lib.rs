@@ -41,9 +41,36 @@ pub trait Library {
 #[derive(Clone, Debug, PartialEq, Eq)]
 pub struct Difference(pub String);
 
+/// Which calls a seed gives.
+#[derive(Clone, Copy, Debug, PartialEq, Eq)]
+pub enum Mix {
+    /// None of the message frame: a seed's are as they ever were.
+    Plain,
+    /// With accesses to the message frame among them.
+    Messages,
+}
+
 /// All that is compared: about so many calls, and how many of which kind they were. The seed gives the same calls again.
 pub fn run<L: Library>(
     library: &L,
+    seed: u64,
+    calls: u64,
+) -> Result<Vec<(&'static str, Tally)>, Case> {
+    run_mix(library, Mix::Plain, seed, calls)
+}
+
+/// The same of calls with messages among them, and a part more that is about these.
+pub fn run_with_messages<L: Library>(
+    library: &L,
+    seed: u64,
+    calls: u64,
+) -> Result<Vec<(&'static str, Tally)>, Case> {
+    run_mix(library, Mix::Messages, seed, calls)
+}
+
+fn run_mix<L: Library>(
+    library: &L,
+    mix: Mix,
     seed: u64,
     calls: u64,
 ) -> Result<Vec<(&'static str, Tally)>, Case> {
@@ -57,15 +84,19 @@ pub fn run<L: Library>(
         Ok(())
     };
     part("a full stack", &histories::deepest)?;
-    part("histories", &|pair| Scenes::new(seed).play(pair, calls / 2))?;
+    part("histories", &|pair| {
+        Scenes::new(mix, seed).play(pair, calls / 2)
+    })?;
     part("every place", &|pair| {
-        Scenes::new(!seed).sweep(pair, calls * 15 / 100)
+        Scenes::new(mix, !seed).sweep(pair, calls * 15 / 100)
     })?;
     part("every shape", &|pair| {
         histories::shapes(pair, seed, calls / 10)
     })?;
-    part("messages", &|pair| messages::play(pair, seed, calls / 10))?;
-    part("lent words", &|pair| lent::play(pair, seed, calls / 4))?;
-    part("images", &|pair| images::play(pair, seed, calls / 2))?;
+    if mix == Mix::Messages {
+        part("messages", &|pair| messages::play(pair, seed, calls / 10))?;
+    }
+    part("lent words", &|pair| lent::play(pair, mix, seed, calls / 4))?;
+    part("images", &|pair| images::play(pair, mix, seed, calls / 2))?;
     Ok(tallies)
 }

@@ -1,7 +1,7 @@
 //! The message frame: every place at every width, windows in and out of the limits, and numbers in, beside and far from them, in the midst of
 //! histories that have messages too.
 use crate::{
-    Difference, Library,
+    Difference, Library, Mix,
     histories::{NO_WIDTHS, Scenes, line},
     pair::Pair,
     request::{FramePlace, Request},
@@ -13,7 +13,7 @@ use oracle::{
 
 /// So many calls.
 pub fn play<L: Library>(pair: &mut Pair<L>, seed: u64, calls: u64) -> Result<(), Difference> {
-    let mut scenes = Scenes::new(seed.rotate_left(8));
+    let mut scenes = Scenes::new(Mix::Messages, seed.rotate_left(8));
     let mut random = Random::new(seed.rotate_left(24));
     let end = pair.tally.calls + calls;
     let mut turns = offsets().cycle().zip((0..FIRSTS * COUNTS * VALUES).cycle());

@@ -1,12 +1,12 @@
 //! That a comparison passes what is equal and finds what is not: the oracle itself in a library's place, as it is and spoiled; and for images
 //! the plain writer and reader of tests/rust/simple, which are held to the second writing by this.
 use crate::{
-    Library, images,
+    Library, Mix, images,
     pair::Pair,
     question::Question,
     report::Case,
     request::{Request, packed},
-    run,
+    run, run_with_messages,
     slots::{exact, places, put},
     tally::Tally,
     wrong::{self, Spoil},
@@ -116,8 +116,22 @@ fn told(answer: Result<usize, simple::Refusal>) -> u64 {
 
 #[test]
 fn what_is_equal_passes() {
-    let tallies = run(&StandIn::SOUND, 1, CALLS);
+    let all = passes(run(&StandIn::SOUND, 1, CALLS));
+    let documents = &all.refusals[..11];
+    assert!(documents.iter().all(|count| *count > 20), "{all}");
+    assert_eq!((all.messages, all.refusals[11]), Default::default());
+}
+
+#[test]
+fn what_is_equal_with_messages_passes() {
+    let all = passes(run_with_messages(&StandIn::SOUND, 1, CALLS));
+    assert!(all.refusals.iter().all(|count| *count > 20), "{all}");
+}
+
+/// No difference, and enough of each kind of calls in each part; and in all of them, which is told.
+fn passes(tallies: Result<Vec<(&'static str, Tally)>, Case>) -> Tally {
     let tallies = tallies.unwrap_or_else(|case| panic!("{}", case.text()));
+    let messages = tallies.iter().any(|(name, _)| *name == "messages");
     for (name, tally) in &tallies[1..] {
         if *name == "images" {
             assert!(tally.saved > 300 && tally.loaded > 2000, "{tally}");
@@ -134,18 +148,18 @@ fn what_is_equal_passes() {
             assert!(tally.points.iter().all(|count| *count > 50), "{tally}");
             assert!(tally.met.iter().all(|count| *count > 10), "{tally}");
         }
-        if ["histories", "messages"].contains(name) {
+        if messages && ["histories", "messages"].contains(name) {
             let messages = &tally.messages;
             assert!(messages.iter().all(|count| *count > 10), "{name}: {tally}");
         }
         if *name == "lent words" {
             assert!(tally.bits.iter().all(|count| *count > 20), "{tally}");
-            assert_eq!(tally.missing_message(), None, "{tally}");
+            assert!(!messages || tally.missing_message().is_none(), "{tally}");
         }
     }
     let mut all = Tally::default();
     tallies.into_iter().for_each(|(_, tally)| all += tally);
-    assert!(all.refusals.iter().all(|count| *count > 20), "{all}");
+    all
 }
 
 /// Found, and told by at most so many calls.
@@ -165,7 +179,7 @@ fn found_moving(at_most: usize, moved: Move) {
     let sound = StandIn::SOUND;
     let library = StandIn { moved, ..sound };
     let mut pair = Pair::new(&library);
-    let difference = images::play(&mut pair, 1, CALLS).expect_err("a spoiled library");
+    let difference = images::play(&mut pair, Mix::Plain, 1, CALLS).expect_err("a spoiled library");
     let case = Case::of(&pair, difference).shrunk(&library);
     assert!(case.requests.len() <= at_most, "{}", case.text());
 }
@@ -484,17 +498,21 @@ fn a_wrong_load_is_found() {
 
 #[test]
 fn a_request_taken_wrong_is_found() {
-    for wrong::Controller {
-        what,
-        at_most,
-        spoil,
-    } in wrong::controllers()
-    {
-        let sound = StandIn::SOUND;
+    for wrong in wrong::controllers() {
+        let (spoil, sound) = (wrong.spoil, StandIn::SOUND);
         let library = StandIn { spoil, ..sound };
-        let case = run(&library, 1, CALLS).expect_err(what).shrunk(&library);
-        let calls = case.requests.len();
-        assert!(calls <= at_most, "{what}: {calls}\n{}", case.text());
+        let case = run(&library, 1, CALLS).expect_err(wrong.what);
+        wrong.is_told(wrong.at_most, &case.shrunk(&library));
+    }
+}
+
+#[test]
+fn a_request_taken_wrong_is_found_among_messages() {
+    for wrong in wrong::controllers().chain(wrong::of_messages()) {
+        let (spoil, sound) = (wrong.spoil, StandIn::SOUND);
+        let library = StandIn { spoil, ..sound };
+        let case = run_with_messages(&library, 1, CALLS).expect_err(wrong.what);
+        wrong.is_told(wrong.among_messages, &case.shrunk(&library));
     }
 }
 

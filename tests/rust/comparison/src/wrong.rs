@@ -5,7 +5,10 @@ mod held_line;
 mod messages;
 mod summary;
 
-use crate::request::{Place, Request, packed};
+use crate::{
+    report::Case,
+    request::{Place, Request, packed},
+};
 use oracle::{
     RegisterRegion::CpuInterface,
     machine::{Machine, SPURIOUS},
@@ -19,21 +22,45 @@ pub struct Controller {
     pub what: &'static str,
     /// It is found, and told by at most so many calls.
     pub at_most: usize,
+    /// The same where there are messages among the calls.
+    pub among_messages: usize,
     pub spoil: Spoil,
 }
 
+/// Those of requests Two, Four and Five.
 pub fn controllers() -> impl Iterator<Item = Controller> {
     let two = binary_point::CONTROLLERS.into_iter();
     two.chain(held_line::CONTROLLERS)
         .chain(summary::CONTROLLERS)
-        .chain(messages::CONTROLLERS)
+}
+
+/// Those of request Seven, which only calls with messages among them find.
+pub fn of_messages() -> impl Iterator<Item = Controller> {
+    messages::CONTROLLERS.into_iter()
 }
 
 const fn wrong(what: &'static str, at_most: usize, spoil: Spoil) -> Controller {
     Controller {
         what,
         at_most,
+        among_messages: at_most,
         spoil,
+    }
+}
+
+impl Controller {
+    /// Where there are messages among the calls, another call tells it first.
+    const fn among_messages(self, among_messages: usize) -> Self {
+        Self {
+            among_messages,
+            ..self
+        }
+    }
+
+    /// That the case has at most so many calls.
+    pub fn is_told(&self, at_most: usize, case: &Case) {
+        let (what, calls) = (self.what, case.requests.len());
+        assert!(calls <= at_most, "{what}: {calls}\n{}", case.text());
     }
 }
 

@@ -3,8 +3,8 @@ use comparison::{
     Library,
     question::Question,
     request::Request,
-    run,
-    wrong::{Controller, Spoil, controllers},
+    run, run_with_messages,
+    wrong::{Spoil, controllers, of_messages},
 };
 use driver::Vgic;
 
@@ -99,16 +99,19 @@ impl Library for Wrong {
 
 #[test]
 fn a_request_taken_wrong_is_found() {
-    for Controller {
-        what,
-        at_most,
-        spoil,
-    } in controllers()
-    {
-        let library = Wrong(spoil);
-        let case = run(&library, 1, 50_000).expect_err(what).shrunk(&library);
-        let calls = case.requests.len();
-        assert!(calls <= at_most, "{what}: {calls}\n{}", case.text());
+    for wrong in controllers() {
+        let library = Wrong(wrong.spoil);
+        let case = run(&library, 1, 50_000).expect_err(wrong.what);
+        wrong.is_told(wrong.at_most, &case.shrunk(&library));
+    }
+}
+
+#[test]
+fn a_request_taken_wrong_is_found_among_messages() {
+    for wrong in controllers().chain(of_messages()) {
+        let library = Wrong(wrong.spoil);
+        let case = run_with_messages(&library, 1, 50_000).expect_err(wrong.what);
+        wrong.is_told(wrong.among_messages, &case.shrunk(&library));
     }
 }
 
@@ -134,5 +137,11 @@ fn a_changed_word_is_found() {
 #[test]
 fn the_library_itself_passes() {
     let tallies = run(&Vgic, 2, 50_000);
+    assert!(tallies.is_ok(), "{}", tallies.unwrap_err().text());
+}
+
+#[test]
+fn the_library_itself_passes_with_messages() {
+    let tallies = run_with_messages(&Vgic, 2, 50_000);
     assert!(tallies.is_ok(), "{}", tallies.unwrap_err().text());
 }

@@ -1,4 +1,5 @@
-//! Random histories with messages, and every place of both frames and of the message frame in the midst of them: answered as the oracle answers.
+//! Random histories, without messages and with them, and every place of both frames and of the message frame in the midst of them: answered as
+//! the oracle answers.
 use oracle::{
     lines,
     scripts::{Histories, random::Random},
@@ -8,6 +9,7 @@ use oracle::{
 struct Both {
     ours: simple::lines::Machine,
     oracle: oracle::machine::Machine,
+    parse: (simple::lines::Parse, lines::Parse),
     histories: Histories,
     /// Large scenes are slow, and most of them are passed over.
     passed_over: bool,
@@ -24,17 +26,29 @@ impl Both {
         Self {
             ours: Default::default(),
             oracle: Default::default(),
-            histories: Histories::with_messages(seed),
+            parse: (simple::lines::parse, lines::parse),
+            histories: Histories::new(seed),
             passed_over: false,
             random: Random::new(!seed),
             compared: 0,
         }
     }
 
+    fn with_messages(seed: u64) -> Self {
+        Self {
+            parse: (
+                simple::lines::parse_with_messages,
+                lines::parse_with_messages,
+            ),
+            histories: Histories::with_messages(seed),
+            ..Self::new(seed)
+        }
+    }
+
     /// The oracle's answer, if it is a call and both give the same.
     fn line(&mut self, line: &[u8]) -> Option<oracle::machine::Answer> {
-        let call = lines::parse_with_messages(line);
-        let ours = simple::lines::parse_with_messages(line);
+        let (ours, oracle) = self.parse;
+        let (call, ours) = (oracle(line), ours(line));
         let shown = String::from_utf8_lossy(line);
         assert_eq!(call.is_some(), ours.is_some(), "{shown}");
         let expected = self.oracle.call(&call?).expect("a sound oracle");
@@ -59,7 +73,7 @@ impl Both {
             return;
         }
         if let Some(answer) = self.line(&line) {
-            let call = lines::parse_with_messages(&line).expect("it was answered");
+            let call = self.parse.1(&line).expect("it was answered");
             self.histories.see(&call, &answer);
         }
     }
@@ -68,16 +82,34 @@ impl Both {
 #[test]
 fn histories() {
     for seed in 1..=4 {
-        let mut both = Both::new(seed);
-        while both.compared < 200_000 {
-            both.step();
-        }
+        play(Both::new(seed));
+    }
+}
+
+#[test]
+fn histories_with_messages() {
+    for seed in 1..=4 {
+        play(Both::with_messages(seed));
+    }
+}
+
+fn play(mut both: Both) {
+    while both.compared < 200_000 {
+        both.step();
     }
 }
 
 #[test]
 fn every_place() {
-    let mut both = Both::new(5);
+    places(Both::new(5));
+}
+
+#[test]
+fn every_place_among_messages() {
+    places(Both::with_messages(5));
+}
+
+fn places(mut both: Both) {
     for (letters, end) in [(["d", "D"], 0x1010), (["c", "C"], 0x2010)] {
         for offset in 0..end {
             for width in [1, 2, 4, 8] {
@@ -96,7 +128,7 @@ fn every_place() {
 /// Windows in and out of the limits of most scenes, and numbers of them.
 #[test]
 fn every_place_of_the_message_frame() {
-    let mut both = Both::new(6);
+    let mut both = Both::with_messages(6);
     let windows = [
         "32 1",
         "33 1",

@@ -5,7 +5,7 @@ use std::{fs, path::Path};
 #[test]
 fn every_row_of_the_lists() {
     let lists = Path::new(env!("CARGO_MANIFEST_DIR")).join("../../lists");
-    let mut count = 0;
+    let (mut count, mut messages) = (0, 0);
     for list in fs::read_dir(lists).unwrap() {
         let path = list.unwrap().path();
         if path.extension().is_none_or(|it| it != "list") {
@@ -20,10 +20,10 @@ fn every_row_of_the_lists() {
             input.push(&row[..at]);
             expected.push(String::from_utf8_lossy(&row[at + 2..]));
         }
-        let parse: Parse = if path.ends_with("messages.list") {
-            lines::parse_with_messages
+        let (rows, parse): (_, Parse) = if path.ends_with("messages.list") {
+            (&mut messages, lines::parse_with_messages)
         } else {
-            lines::parse
+            (&mut count, lines::parse)
         };
         let mut output = vec![];
         lines::run(&input.join(&b'\n')[..], &mut output, parse).unwrap();
@@ -33,9 +33,10 @@ fn every_row_of_the_lists() {
             let line = String::from_utf8_lossy(line);
             assert_eq!(answer, expected, "{}: {line}", path.display());
         }
-        count += input.len();
+        *rows += input.len();
     }
-    assert!(count > 10_000, "{count}");
+    assert!(count > 9000, "{count}");
+    assert!(count + messages > 10_000, "{messages}");
 }
 
 #[test]

@@ -42,21 +42,23 @@ pub const CONTROLLERS: [Controller; 14] = [
     wrong("groups again what RPR shows", 9, shown_again),
     wrong(
         "groups again what is served at a write of BPR",
-        9,
+        8,
         served_again,
-    ),
-    wrong("compares the best as it is", 12, compared_as_it_is),
+    )
+    .among_messages(9),
+    wrong("compares the best as it is", 10, compared_as_it_is).among_messages(12),
     wrong("holds the group against the mask", 8, masked_by_group),
     wrong("chooses the best by its group", 10, best_by_group),
     wrong(
         "wakes nobody at a write of BPR",
-        11,
+        10,
         |request, _, given, _| {
             if writes_point(request) {
                 *given &= !(0xff << 48);
             }
         },
-    ),
+    )
+    .among_messages(11),
     wrong("takes in a 129th", 1, one_more),
     wrong("takes a depth of 129 for a state's", 1, deeper),
     wrong("saves odd entries", 1, saves_odd),

@@ -155,12 +155,13 @@ pub const CONTROLLERS: [Controller; 28] = [
     ),
     wrong(
         "selects what has its bit or is ready",
-        2,
+        1,
         |request, before, given, _| {
             selected(request, before, given, |set, ready| set || ready);
         },
-    ),
-    wrong("selects a bit from the limit up", 2, selects_past),
+    )
+    .among_messages(2),
+    wrong("selects a bit from the limit up", 1, selects_past).among_messages(2),
     wrong("wakes by the records", 1, wakes_by_records),
     wrong("shows the bits as pending", 7, shows_bits),
     wrong(

@@ -17,7 +17,11 @@ use crate::{
     registers::Bank,
     words,
 };
-use model::{gic::Gic, lines::answer_line_or_message, record::Record};
+use model::{
+    gic::Gic,
+    lines::{answer_line, answer_line_or_message},
+    record::Record,
+};
 use types::Parts;
 
 fn number(vcpu: GicVcpuId) -> u64 {
@@ -62,31 +66,34 @@ fn assert_same_words(gic: &GicV3Controller, second: &Gic) {
     assert_eq!(second.is_lawful(), invariants::broken(gic).is_none());
 }
 
+/// By whom the second writing answers: `answer_line` or `answer_line_or_message`.
+type Answers = fn(&mut Option<Gic>, &[u8], &mut Vec<u8>);
+
 /// What the second writing answers.
-fn second_answer(second: &mut Option<Gic>, line: &[u8]) -> String {
+fn second_answer(by: Answers, second: &mut Option<Gic>, line: &[u8]) -> String {
     let mut answer = vec![];
-    answer_line_or_message(second, line, &mut answer);
+    by(second, line, &mut answer);
     String::from_utf8(answer).unwrap().trim_end().into()
 }
 
 #[test]
 fn the_second_writing_has_the_same_answer_and_state_after_every_line() {
-    both_play(Scripts::new);
+    both_play(Scripts::new, answer_line);
 }
 
 #[test]
 fn the_second_writing_has_the_same_messages() {
-    both_play(Scripts::with_messages);
+    both_play(Scripts::with_messages, answer_line_or_message);
 }
 
-fn both_play(scripts: fn(u64) -> Scripts) {
+fn both_play(scripts: fn(u64) -> Scripts, by: Answers) {
     for seed in SEEDS {
         let (mut scripts, mut second) = (scripts(seed), None);
         for turn in 0..LINES {
             let (line, answered) = scripts.play();
             let answer = answered.map_or("?".into(), |(_, answer)| answer.to_string());
             let shown = String::from_utf8_lossy(&line);
-            assert_eq!(second_answer(&mut second, &line), answer, "{shown}");
+            assert_eq!(second_answer(by, &mut second, &line), answer, "{shown}");
             match (scripts.machine.controller(), &second) {
                 (Some(gic), Some(second)) if turn % 8 == 0 => assert_same_words(gic, second),
                 (Some(gic), Some(second)) => assert_same_state(gic, second),
@@ -181,15 +188,17 @@ fn scramble_interface(
     }
 }
 
-/// Both in one state, whatever it is, and the lines of a few steps to take from there, with messages among them.
-fn any_start(random: &mut Random) -> (Machine, Option<Gic>, Vec<Vec<u8>>) {
+/// Both in one state, whatever it is, and the lines of a few steps to take from there, perhaps with messages among them.
+fn any_start(random: &mut Random, messages: bool) -> (Machine, Option<Gic>, Vec<Vec<u8>>) {
     let mut scene = Scene::new(random);
-    scene.open_window(random);
+    if messages {
+        scene.open_window(random);
+    }
     let (count, limit) = (scene.count, scene.limit);
     let setup = Call::Setup { count, limit };
     let (mut machine, mut second) = (Machine::default(), None);
     machine.call(&setup).unwrap();
-    second_answer(&mut second, setup.to_string().as_bytes());
+    second_answer(answer_line, &mut second, setup.to_string().as_bytes());
     let gic = machine.controller().unwrap();
     scramble(random, &mut gic.state(), second.as_mut().unwrap());
     let mut lines = vec![];
@@ -203,17 +212,27 @@ fn any_start(random: &mut Random) -> (Machine, Option<Gic>, Vec<Vec<u8>>) {
 
 #[test]
 fn from_any_state_too() {
+    from_any_state(false, lines::parse, answer_line);
+}
+
+#[test]
+fn from_any_state_with_messages_too() {
+    let rung = from_any_state(true, lines::parse_with_messages, answer_line_or_message);
+    assert!(rung > 1000, "{rung}");
+}
+
+/// How many messages changed something.
+fn from_any_state(messages: bool, parse: lines::Parse, by: Answers) -> usize {
     let mut random = Random::new(0);
     let (mut refused_by_7, mut false_bits, mut rung) = (0, 0, 0);
     for _ in 0..2000 {
-        let (mut machine, mut second, lines) = any_start(&mut random);
+        let (mut machine, mut second, lines) = any_start(&mut random, messages);
         assert_same_words(machine.controller().unwrap(), second.as_ref().unwrap());
         for line in lines {
             let before = machine.controller().unwrap().clone();
-            let call = lines::parse_with_messages(&line);
-            let answer = lines::answer(&mut machine, call).unwrap();
+            let answer = lines::answer(&mut machine, parse(&line)).unwrap();
             let shown = String::from_utf8_lossy(&line);
-            assert_eq!(second_answer(&mut second, &line), answer, "{shown}");
+            assert_eq!(second_answer(by, &mut second, &line), answer, "{shown}");
             assert_same_state(machine.controller().unwrap(), second.as_ref().unwrap());
             refused_by_7 += usize::from(answer.starts_with('7'));
             false_bits += usize::from(gave_unready(&before, &line, &answer));
@@ -223,7 +242,7 @@ fn from_any_state_too() {
     }
     assert!(refused_by_7 > 100, "{refused_by_7}");
     assert!(false_bits > 100, "{false_bits}");
-    assert!(rung > 1000, "{rung}");
+    rung
 }
 
 /// Whether an acknowledge gave an SPI that was not ready by its record.
