@@ -21,7 +21,8 @@ use Rattle.image.specs.Image.{image}
 use Rattle.save.specs.Save.{save, image_bytes}
 use Rattle.save.proofs.Bound.{image_fits}
 use Rattle.load.specs.Load.{image_shape, load}
-use Rattle.moving.proofs.Moving.{LeavesAs, images_load, load_restores_the_words, only_images_load, lawful_states_are_saved, only_lawful_states_are_saved}
+use Rattle.moving.proofs.Restores.{images_load}
+use Rattle.moving.proofs.Moving.{LeavesAs, load_restores_the_words, only_images_load, lawful_states_are_saved, only_lawful_states_are_saved}
 use Rattle.history.specs.History.{Call, Save, Load, IrqLevel, is_start, called, run, Handed, handed, answers, no_start, Started}
 use Rattle.history.proofs.Always.{stored, always}
 use Rattle.reach.specs.Reach.{size_or, stored_extent, ReachAtMost, SameFront}

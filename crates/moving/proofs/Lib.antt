@@ -17,4 +17,5 @@ pub mod Opens
 pub mod Walks
 pub mod Loads
 pub mod Moving
+pub mod Restores
 pub mod Stacks

@@ -1,5 +1,5 @@
 -- Request One, in its own words: "Equal states give equal bytes" (`equal_states_give_equal_bytes` in Means.antt); "exactly the images of lawful
--- states load; load after save restores a lawful state, and save after load gives the same image"; loading "does not read the old state".
+-- states load; load after save restores a lawful state, and save after load gives the same image" (the last, and that they load, in Restores.antt); loading "does not read the old state".
 -- For every list of words and every list of bytes. Assumes nothing.
 use mathlib.Core.Path.{◌≡◌, refl, sym, ap, ap₂, subst, ◌∙◌}
 use mathlib.Core.Bool.{Bool, true, false}
@@ -67,17 +67,14 @@ only_images_load bytes w =
 
 -- and the image of a lawful state loads, wherever there is room for it
 module _ (shape : Shape) (s : List ℕ) (law : Lawful shape s) (w : List ℕ) where
-  imaged : Imaged shape s
+  pub imaged : Imaged shape s
   imaged = images_are_read shape s law
 
-  abbrev restored : List ℕ
+  abbrev pub restored : List ℕ
   restored = stored shape (distributor_control_at shape s) (image shape s) imaged.start w
 
-  loads_as : size shape ≤ length w → load (image shape s) w ≡ gave 0 restored
+  pub loads_as : size shape ≤ length w → load (image shape s) w ≡ gave 0 restored
   loads_as = accepted_loads (image shape s) w shape (distributor_control_at shape s) imaged.start (length (image shape s)) imaged.accepts
-
-  pub images_load : size shape ≤ length w → load (image shape s) w ≡ gave 0 (load (image shape s) w).state
-  images_load h = loads_as h ∙ ap (λ (o : Outcome). gave 0 o.state) (sym (loads_as h))
 
   pub images_want_room : length w < size shape → load (image shape s) w ≡ refused ShortState w
   images_want_room = accepted_wants_room (image shape s) w shape (distributor_control_at shape s) imaged.start (length (image shape s)) imaged.accepts
@@ -116,7 +113,7 @@ images_are_not_refused_by_9 bytes w it e = go (leb (size it.shape) (length w)) r
 
     go : (b : Bool) → leb (size it.shape) (length w) ≡ b → ⊥
     go true p =
-        let o = ap (λ (o : Outcome). o.refusal) (by ∙ images_load it.shape it.state it.lawful w (leb-true (size it.shape) (length w) p)) in
+        let o = ap (λ (o : Outcome). o.refusal) (by ∙ loads_as it.shape it.state it.lawful w (leb-true (size it.shape) (length w) p)) in
         omega (arith, e, o)
     go false p =
         let o = ap (λ (o : Outcome). o.refusal) (by ∙ images_want_room it.shape it.state it.lawful w (leb-false (size it.shape) (length w) p)) in
@@ -205,7 +202,7 @@ pub record SavedAs (s buffer : List ℕ) : Type 0 where
 
 -- a lawful state is saved wherever there is room for its image
 module _ (shape : Shape) (s : List ℕ) (law : Lawful shape s) (buffer : List ℕ) where
-  into : length (image shape s) ≤ length buffer
+  pub into : length (image shape s) ≤ length buffer
       → save s buffer ≡ record { outcome = gave (length (image shape s)) s; buffer = image shape s ++ drop (length (image shape s)) buffer }
   unfolding save
   into h = simp (held_validated s shape law.in_range, lawful_passes shape s law, le-leb (length (image shape s)) (length buffer) h)
@@ -258,11 +255,3 @@ save_cases s buffer P broken unlawful short saves = go (validated s) refl
 pub only_lawful_states_are_saved : (s buffer : List ℕ) → (save s buffer).outcome.refusal ≡ 0 → SavedAs s buffer
 only_lawful_states_are_saved s buffer =
     save_cases s buffer (λ o. o.outcome.refusal ≡ 0 → SavedAs s buffer) (λ e. absurd (omega (arith, e))) (λ e. absurd (omega (arith, e))) (λ e. absurd (omega (arith, e))) (λ it e. it)
-
--- "save after load gives the same image"
-pub save_after_load_gives_the_image : (bytes w buffer : List ℕ) → (load bytes w).refusal ≡ 0 → length bytes ≤ length buffer
-    → save (load bytes w).state buffer ≡ record { outcome = gave (length bytes) (load bytes w).state; buffer = bytes ++ drop (length bytes) buffer }
-save_after_load_gives_the_image bytes w buffer e h =
-    let it = only_images_load bytes w e in
-    let same = into (image_shape bytes) (load bytes w).state it.controls.lawful buffer (rw (← it.is) h) in
-    rw (← it.is) at same
