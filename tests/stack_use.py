@@ -1,7 +1,7 @@
 #!/usr/bin/env python3
 """Prints how much stack each exported function of a static library can use, from its compiled code.
 
-usage: tests/stack_use.py [--leaf NAME] ARCHIVE [FUNCTION..]    of these functions instead, where each stands by itself, as in unoptimised
+usage: tests/stack_use.py [--leaf NAME].. ARCHIVE [FUNCTION..]    of these functions instead, where each stands by itself, as in unoptimised
 code; a function that is not in the archive may be called where it is named as one that uses no stack
 
 Every path through every function is followed with the stack pointer's distance from its value at entry, and the deepest path of calls is
@@ -307,7 +307,7 @@ class Function:
 class Archive:
     """What each function of an archive uses; a function is read when it is first come to."""
 
-    def __init__(self, path, leaf):
+    def __init__(self, path, leaves):
         self.path = path
         self.disassembler, listing = tool(path)
         self.machine = X86 if "elf64-x86-64" in listing else Arm if "aarch64" in listing else None
@@ -315,7 +315,7 @@ class Archive:
             raise Unknown("code for a machine not known here")
         self.code, self.sections = functions(listing)
         self.data = {"code": self.code, "rows": tables(self.disassembler, path), "bytes": contents(self.disassembler, path)}
-        self.known = {leaf: (0, (leaf,))}
+        self.known = {it: (0, (it,)) for it in leaves}
 
     def exported(self):
         listing = said(self.disassembler, "-t", self.path).stdout
@@ -344,8 +344,11 @@ class Archive:
 
 
 def main(*words):
-    leaf, (path, *names) = (words[1], words[2:]) if words[0] == "--leaf" else (None, words)
-    archive = Archive(path, leaf)
+    leaves = []
+    while words[0] == "--leaf":
+        leaves, words = [*leaves, words[1]], words[2:]
+    path, *names = words
+    archive = Archive(path, leaves)
     for name in names or archive.exported():
         below, calls = archive.deepest(name)
         print(f"{name} {below + archive.machine.RETURN_ADDRESS} {' > '.join(calls[1:]) or '-'}")
