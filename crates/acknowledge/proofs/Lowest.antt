@@ -1,26 +1,19 @@
 -- The lowest source: a set bit, and none below it is set. Assumes nothing.
-use mathlib.Core.Path.{◌≡◌, refl, sym, ap, ◌∙◌}
+use mathlib.Core.Path.{◌≡◌, refl, sym, ◌∙◌}
 use mathlib.Core.Bool.{Bool, true, false, cond, true≢false}
-use Prim.Native.Nat.{ℕ, zero, suc, ◌+◌, ◌-◌, ◌/◌, ◌%◌, ◌^◌, ◌≤◌, ◌<◌}
+use Prim.Native.Nat.{ℕ, zero, suc, ◌+◌, ◌/◌, ◌%◌, ◌^◌, ◌≤◌, ◌<◌}
 use native.Mathlib.Omega.{arith}
+use mir.Syntax.{w8}
 use lib.Dec.{eqb}
+use borrow.Author.Tests.{eq-eqb, eqb-true}
+use Rattle.std.specs.Int.{trailing_zeros}
+use Rattle.std.proofs.lemmas.Nat.Bits.{bit_at-trailing_zeros}
 use Rattle.word.proofs.Cases.{same_or}
 use Rattle.acknowledge.specs.Acknowledge.{lowest_from, lowest_source}
 
 -- bit i of x
 abbrev bit : ℕ → ℕ → Bool
 bit i x = eqb (x / 2 ^ i % 2) 1
-
--- one step of the search
-step : (i x : ℕ) → i < 8 → lowest_from (8 - i) i x ≡ cond (bit i x) i (lowest_from (8 - suc i) (suc i) x)
-unfolding lowest_from
-step i x h = let e : 8 - i ≡ suc (8 - suc i) = omega arith in ap (λ (k : ℕ). lowest_from k i x) e
-
-pub lowest_found : (i x : ℕ) → i < 8 → bit i x ≡ true → lowest_from (8 - i) i x ≡ i
-lowest_found i x h p = step i x h ∙ simp p
-
-pub lowest_next : (i x : ℕ) → i < 8 → bit i x ≡ false → lowest_from (8 - i) i x ≡ lowest_from (8 - suc i) (suc i) x
-lowest_next i x h p = step i x h ∙ simp p
 
 -- what is found is set, and no set bit is below it
 module _ (x j : ℕ) (one : bit j x ≡ true) where
@@ -39,3 +32,22 @@ module _ (x j : ℕ) (one : bit j x ≡ true) where
 
   pub lowest_is : j < 8 → (bit (lowest_source x) x ≡ true) × (lowest_source x ≤ j)
   lowest_is h = found 8 0 (omega arith) (omega arith)
+
+-- so it is the count of the zeros below the lowest 1
+pub lowest_counted : (x : ℕ) → 0 < x → x < 2 ^ 8 → (trailing_zeros w8 x ≡ lowest_source x) × (trailing_zeros w8 x < 8)
+lowest_counted x some small = (same_or j low (λ e. e) (λ apart. absurd (no_lower (omega (arith, is.1)))), counted.0)
+  where
+    j : ℕ
+    j = trailing_zeros w8 x
+
+    low : ℕ
+    low = lowest_source x
+
+    counted : (j < 8) × (x / 2 ^ j % 2 ≡ 1) × ((i : ℕ) → i < j → x / 2 ^ i % 2 ≡ 0)
+    counted = bit_at-trailing_zeros w8 x some small
+
+    is : (bit low x ≡ true) × (low ≤ j)
+    is = lowest_is x j (eq-eqb (x / 2 ^ j % 2) 1 counted.1) counted.0
+
+    no_lower : low < j → ⊥
+    no_lower h = let one : x / 2 ^ low % 2 ≡ 1 = eqb-true (x / 2 ^ low % 2) 1 is.0 in omega (arith, counted.2 low h)

@@ -1,11 +1,10 @@
 -- IAR: document 01, "CPU interface places", IAR, and refusal 7; document 02, Two, the binary point; IHI 0048, 4.4.4, "Interrupt Acknowledge
 -- Register", and 3.3.3, "Priority grouping".
-use Rattle.std.specs.Prelude.{◌≡◌, Bool, true, false, cond, List, ℕ, zero, suc, ◌+◌, ◌*◌, ◌/◌, ◌%◌, ◌^◌, ◌<◌, eqb, ltb}
+use Rattle.std.specs.Prelude.{◌≡◌, Bool, true, false, cond, List, ℕ, zero, suc, ◌+◌, ◌*◌, ◌/◌, ◌%◌, ◌^◌, ◌<◌, eqb, ltb, Option, Some, None}
 use Rattle.interrupt.specs.Types.{is_sgi}
 use Rattle.interrupt.specs.Record.{mark_inflight, set_owner, synchronize_inflight, set_pending}
 use Rattle.interrupt.specs.declared.types.InterruptState.TheVariants.{Active}
 use Rattle.interrupt.specs.declared.record.InterruptRecord.{InterruptRecord}
-use Rattle.interrupt.specs.declared.record.Owner.TheVariants.{Vcpu}
 use Rattle.state.specs.declared.layout.Shape.{Shape}
 use Rattle.state.specs.declared.layout.InterfaceValue.TheVariants.{BinaryPoint}
 use Rattle.state.specs.declared.words.Entry.{Entry}
@@ -13,12 +12,8 @@ use Rattle.state.specs.Layout.{Room, stack_capacity}
 use Rattle.state.specs.Words.{changed, sources_at, with_sources, enabled_at, interface_at}
 use Rattle.sgi.specs.Sgi.{merged_sources}
 use Rattle.select.specs.declared.Candidate.{Candidate}
-use Rattle.select.specs.declared.Selected.{Selected}
-use Rattle.select.specs.declared.Selected.TheVariants.{Best, Nothing}
 use Rattle.select.specs.Select.{best, both_on}
 use Rattle.service.specs.Service.{depth_at, running, pushed, Served}
-use Rattle.acknowledge.specs.declared.Read.{Read}
-use Rattle.acknowledge.specs.declared.Read.TheVariants.{Value, StackFull}
 
 -- "With binary point b the group priority is the priority with its low b+1 bits cleared."
 unfoldable pub group_priority : ℕ → ℕ → ℕ
@@ -32,13 +27,13 @@ group_of shape v s c = group_priority (interface_at shape v BinaryPoint s) c.pri
 abbrev pub preempts : Shape → ℕ → List ℕ → Candidate → Bool
 preempts shape v s c = ltb (group_of shape v s c) (running shape v s)
 
-abbrev pub preempting : Shape → ℕ → List ℕ → Selected → Selected
-preempting shape v s Nothing = Nothing
-preempting shape v s (Best c) = cond (preempts shape v s c) (Best c) Nothing
+abbrev pub preempting : Shape → ℕ → List ℕ → Option Candidate → Option Candidate
+preempting shape v s None = None
+preempting shape v s (Some c) = cond (preempts shape v s c) (Some c) None
 
 -- "gives the best only if both are on and its priority", now its group priority, "is below the running priority"
-unfoldable pub offer : Shape → ℕ → List ℕ → Selected
-offer shape v s = cond (both_on shape v s) (preempting shape v s (best shape v s)) Nothing
+unfoldable pub offer : Shape → ℕ → List ℕ → Option Candidate
+offer shape v s = cond (both_on shape v s) (preempting shape v s (best shape v s)) None
 
 -- the lowest 1 bit of eight, 0 if there is none
 unfoldable pub lowest_from : ℕ → ℕ → ℕ → ℕ
@@ -64,7 +59,7 @@ source_taken shape v n source s = cond (is_sgi (record { 0 = n })) (pend_if_left
 
 -- "It marks the record in flight, owned by this vCPU, calls `synchronize_inflight` with Active"
 unfoldable pub given_record : ℕ → InterruptRecord → InterruptRecord
-given_record v r = (synchronize_inflight (set_owner (mark_inflight r) (Vcpu (record { 0 = v }))) Active).after
+given_record v r = (synchronize_inflight (set_owner (mark_inflight r) (Some (record { 0 = v }))) Active).after
 
 -- what is pushed for a candidate: "number and priority", and of the group priority: "the stack holds it"
 abbrev pub pushed_for : Shape → ℕ → List ℕ → Candidate → Entry
@@ -76,29 +71,29 @@ unfoldable pub given : Shape → ℕ → Candidate → List ℕ → List ℕ
 given shape v c s = source_taken shape v c.intid.0 (source_of shape v c.intid.0 s) (changed shape v c.intid.0 (given_record v) (pushed shape v (pushed_for shape v s c) s))
 
 -- "answers number + 1024*source"; "else 1023"; 7 if it "would hand out an interrupt and the service stack holds" 128 (document 02, Two)
-unfoldable pub answered : Shape → ℕ → List ℕ → Selected → Read
-answered shape v s Nothing = Value 1023
-answered shape v s (Best c) = cond (ltb (depth_at shape v s) stack_capacity) (Value (c.intid.0 + 1024 * source_of shape v c.intid.0 s)) StackFull
+unfoldable pub answered : Shape → ℕ → List ℕ → Option Candidate → Option ℕ
+answered shape v s None = Some 1023
+answered shape v s (Some c) = cond (ltb (depth_at shape v s) stack_capacity) (Some (c.intid.0 + 1024 * source_of shape v c.intid.0 s)) None
 
-unfoldable pub taken : Shape → ℕ → List ℕ → Selected → List ℕ
-taken shape v s Nothing = s
-taken shape v s (Best c) = cond (ltb (depth_at shape v s) stack_capacity) (given shape v c s) s
+unfoldable pub taken : Shape → ℕ → List ℕ → Option Candidate → List ℕ
+taken shape v s None = s
+taken shape v s (Some c) = cond (ltb (depth_at shape v s) stack_capacity) (given shape v c s) s
 
 -- what an IAR read by v answers, and the state after it
-abbrev pub acknowledge : Shape → ℕ → List ℕ → Read
+abbrev pub acknowledge : Shape → ℕ → List ℕ → Option ℕ
 acknowledge shape v s = answered shape v s (offer shape v s)
 
 abbrev pub acknowledged : Shape → ℕ → List ℕ → List ℕ
 acknowledged shape v s = taken shape v s (offer shape v s)
 
 -- what the two cases of an answer are in document 01: the refusal's number, 0 for none, and the value
-abbrev pub refusal_of : Read → ℕ
-refusal_of (Value x) = 0
-refusal_of StackFull = 7
+abbrev pub refusal_of : Option ℕ → ℕ
+refusal_of (Some x) = 0
+refusal_of None = 7
 
-abbrev pub value_of : Read → ℕ
-value_of (Value x) = x
-value_of StackFull = 0
+abbrev pub value_of : Option ℕ → ℕ
+value_of (Some x) = x
+value_of None = 0
 
 -- words that hold a state; the vCPU is looked up only while the Distributor is on
 pub record MayAcknowledge (shape : Shape) (v : ℕ) (s : List ℕ) : Type 0 where

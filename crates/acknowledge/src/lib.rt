@@ -1,16 +1,15 @@
 // IAR: the best candidate goes to a vCPU, if it may interrupt what runs there.
 #![tactic(auto)]
 
-ghost use Rattle.std.specs.Prelude.{◌≡◌, ◌+◌, ◌*◌, ◌<◌};
+ghost use Rattle.std.specs.Prelude.{◌≡◌, ◌+◌, ◌*◌, ◌<◌, Some};
 ghost use Rattle.state.specs.Layout.{Sources};
 ghost use Rattle.state.specs.Words.{Reached, HoldsSlot, changed, with_sources};
-ghost use Rattle.select.specs.declared.Selected.TheVariants.{Best};
 ghost use Rattle.service.specs.Service.{pushed, Served};
 ghost use Rattle.acknowledge.specs.Bound.{rounded_up, preemption_bound};
 ghost use Rattle.acknowledge.specs.Acknowledge.{group_priority, group_of, preempts, preempting, offer, lowest_source, source_of, pend_if_left, source_taken, given_record, pushed_for, given, answered, taken, acknowledge, acknowledged, MayAcknowledge, Givable};
 
-use interrupt::{GicVcpuId, IntId, InterruptRecord, InterruptState, Owner, Priority};
-use select::{Candidate, Selected, both_enabled, highest_pending};
+use interrupt::{GicVcpuId, IntId, InterruptRecord, InterruptState, Priority};
+use select::{Candidate, both_enabled, highest_pending};
 use service::{depth, push_v2_active, running_priority};
 use sgi::set_pending;
 use state::layout::STACK_CAPACITY;
@@ -19,13 +18,6 @@ use state::words::{
 };
 use state::{Entry, InterfaceValue, Shape};
 use targets::vcpu_bit;
-
-// What a read gives: a value, or refusal 7.
-#[derive(Clone, Copy)]
-pub enum Read {
-    Value(u32),
-    StackFull,
-}
 
 // `point` bits and one more are cleared: of all eight, 7 leaves none.
 #[tactic(auto, using(crate::proofs::Grouping::group_at_most, crate::proofs::Grouping::group_shifted))]
@@ -75,46 +67,40 @@ pub fn preemption_bound(words: &[u32], shape: Shape, vcpu: GicVcpuId) -> u32
     rounded_up(running_priority(words, shape, vcpu), point)
 }
 
-fn preempting(words: &[u32], shape: Shape, vcpu: GicVcpuId, selected: Selected) -> Selected
+fn preempting(
+    words: &[u32],
+    shape: Shape,
+    vcpu: GicVcpuId,
+    selected: Option<Candidate>,
+) -> Option<Candidate>
     requires { Served shape vcpu.0 words.now }
     ensures { result ≡ preempting shape vcpu.0 words.now selected }
 {
-    match selected {
-        Selected::Best(candidate) => {
-            if preempts(words, shape, vcpu, candidate) {
-                Selected::Best(candidate)
-            } else {
-                Selected::Nothing
-            }
-        }
-        Selected::Nothing => Selected::Nothing,
-    }
+    let candidate = selected?;
+    preempts(words, shape, vcpu, candidate).then_some(candidate)
 }
 
 // What an IAR read would hand out now.
 #[tactic(auto, unfolding(crate::specs::Acknowledge::offer))]
-pub fn offer(words: &[u32], shape: Shape, vcpu: GicVcpuId) -> Selected
+pub fn offer(words: &[u32], shape: Shape, vcpu: GicVcpuId) -> Option<Candidate>
     requires { Served shape vcpu.0 words.now }
     ensures { result ≡ offer shape vcpu.0 words.now }
 {
     if both_enabled(words, shape, vcpu) {
         preempting(words, shape, vcpu, highest_pending(words, shape, vcpu))
     } else {
-        Selected::Nothing
+        None
     }
 }
 
+#[tactic(auto, using(crate::proofs::Lowest::lowest_counted), unfolding(crate::specs::Acknowledge::lowest_from))]
 fn lowest_source(sources: u8) -> GicVcpuId
     ensures { (result.0 ≡ lowest_source sources) × (result.0 < 8) }
 {
-    let mut i = 0;
-    while i < 8 {
-        if (sources >> i) % 2 == 1 {
-            return GicVcpuId(i);
-        }
-        i += 1;
+    if sources == 0 {
+        return GicVcpuId(0);
     }
-    GicVcpuId(0)
+    GicVcpuId(sources.trailing_zeros() as usize)
 }
 
 fn sgi_source(words: &[u32], shape: Shape, vcpu: GicVcpuId, intid: IntId) -> GicVcpuId
@@ -160,7 +146,7 @@ fn take_sgi_source(
 fn given_record(record: InterruptRecord, vcpu: GicVcpuId) -> InterruptRecord
     ensures { result ≡ given_record vcpu.0 «record» }
 {
-    let marked = record.mark_inflight().set_owner(Owner::Vcpu(vcpu));
+    let marked = record.mark_inflight().set_owner(Some(vcpu));
     marked.synchronize_inflight(InterruptState::Active).after
 }
 
@@ -203,35 +189,36 @@ fn give(words: &mut [u32], shape: Shape, vcpu: GicVcpuId, candidate: Candidate) 
     intid.0 + 1024 * (source.0 as u32)
 }
 
-fn accept(words: &mut [u32], shape: Shape, vcpu: GicVcpuId, candidate: Candidate) -> Read
+// None where refusal 7 is for it: no room is left.
+fn accept(words: &mut [u32], shape: Shape, vcpu: GicVcpuId, candidate: Candidate) -> Option<u32>
     requires { (Served shape vcpu.0 words.old) × (candidate.intid.0 < shape.limit) }
-    ensures { (result ≡ answered shape vcpu.0 words.old (Best candidate)) × (words.new ≡ taken shape vcpu.0 words.old (Best candidate)) }
+    ensures { (result ≡ answered shape vcpu.0 words.old (Some candidate)) × (words.new ≡ taken shape vcpu.0 words.old (Some candidate)) }
 {
     if depth(words, shape, vcpu) < STACK_CAPACITY {
-        Read::Value(give(words, shape, vcpu, candidate))
+        Some(give(words, shape, vcpu, candidate))
     } else {
-        Read::StackFull
+        None
     }
 }
 
-fn take_pending_delivery(words: &mut [u32], shape: Shape, vcpu: GicVcpuId) -> Read
+fn take_pending_delivery(words: &mut [u32], shape: Shape, vcpu: GicVcpuId) -> Option<u32>
     requires { Served shape vcpu.0 words.old }
     ensures { (result ≡ acknowledge shape vcpu.0 words.old) × (words.new ≡ acknowledged shape vcpu.0 words.old) }
 {
     match offer(words, shape, vcpu) {
-        Selected::Best(candidate) => accept(words, shape, vcpu, candidate),
-        Selected::Nothing => Read::Value(IntId::SPURIOUS.0),
+        Some(candidate) => accept(words, shape, vcpu, candidate),
+        None => Some(IntId::SPURIOUS.0),
     }
 }
 
 // While the Distributor is off, the vCPU need not exist.
-pub fn acknowledge_v2(words: &mut [u32], shape: Shape, vcpu: GicVcpuId) -> Read
+pub fn acknowledge_v2(words: &mut [u32], shape: Shape, vcpu: GicVcpuId) -> Option<u32>
     requires { MayAcknowledge shape vcpu.0 words.old }
     ensures { (result ≡ acknowledge shape vcpu.0 words.old) × (words.new ≡ acknowledged shape vcpu.0 words.old) }
 {
     if distributor_enabled(words, shape) {
         take_pending_delivery(words, shape, vcpu)
     } else {
-        Read::Value(IntId::SPURIOUS.0)
+        Some(IntId::SPURIOUS.0)
     }
 }

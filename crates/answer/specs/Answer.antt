@@ -1,16 +1,17 @@
 -- What a public call comes to: document 01, "Refusal numbers" ("Each leaves all lent state as found"; "Order: 6, then 1, then 2, then 3, then
 -- 7") and "The runner's lines" ("refusal, value, wake set and retired number (1023 for none)"). A call's promise is one equation between
 -- its outcome and a definition in its own crate.
-use Rattle.std.specs.Prelude.{◌≡◌, Bool, cond, ◌&&◌, List, ℕ, leb}
+use Rattle.std.specs.Prelude.{◌≡◌, Bool, cond, ◌&&◌, List, ℕ, leb, Option, Some, None, Result, Ok, Err}
 use Rattle.register.specs.declared.frame.Refusal.{Refusal}
 use Rattle.register.specs.declared.frame.Refusal.TheVariants.{Vcpu, BrokenState}
 use Rattle.register.specs.Frame.{refusal_number}
 use Rattle.state.specs.declared.layout.Shape.{Shape}
-use Rattle.state.specs.declared.lent.Lent.{Lent}
-use Rattle.state.specs.declared.lent.Lent.TheVariants.{Sound, Broken}
 use Rattle.wake.specs.Wake.{wake_set}
-use Rattle.answer.specs.declared.Answer.{Answer}
-use Rattle.answer.specs.declared.Answer.TheVariants.{Done, Refused}
+use Rattle.answer.specs.declared.Reply.{Reply}
+
+-- what a call answers, or why it is refused
+abbrev pub Answer : Type 0
+Answer = Result Reply Refusal
 
 -- the four numbers of an answer, and the whole lent state after the call
 pub record Outcome : Type 0 where
@@ -22,20 +23,20 @@ pub record Outcome : Type 0 where
 
 -- the numbers of each case
 abbrev pub refusal_in : Answer → ℕ
-refusal_in (Done reply) = 0
-refusal_in (Refused r) = refusal_number r
+refusal_in (Ok reply) = 0
+refusal_in (Err r) = refusal_number r
 
 abbrev pub value_in : Answer → ℕ
-value_in (Done reply) = reply.value
-value_in (Refused r) = 0
+value_in (Ok reply) = reply.value
+value_in (Err r) = 0
 
 abbrev pub wake_in : Answer → ℕ
-wake_in (Done reply) = reply.wake
-wake_in (Refused r) = 0
+wake_in (Ok reply) = reply.wake
+wake_in (Err r) = 0
 
 abbrev pub retired_in : Answer → ℕ
-retired_in (Done reply) = reply.retired.0
-retired_in (Refused r) = 1023
+retired_in (Ok reply) = reply.retired.0
+retired_in (Err r) = 1023
 
 abbrev pub outcome : Answer → List ℕ → Outcome
 outcome a s = record { refusal = refusal_in a; value = value_in a; wake = wake_in a; retired = retired_in a; state = s }
@@ -60,9 +61,9 @@ abbrev pub went : Shape → ℕ → List ℕ → List ℕ → Outcome
 went shape retired s r = done (wake_set shape s r) retired r
 
 -- 6, before all else
-abbrev pub on_state : Lent → List ℕ → (Shape → Outcome) → Outcome
-on_state Broken s f = refused BrokenState s
-on_state (Sound shape) s f = f shape
+abbrev pub on_state : Option Shape → List ℕ → (Shape → Outcome) → Outcome
+on_state None s f = refused BrokenState s
+on_state (Some shape) s f = f shape
 
 -- 3: "the call looks up its vCPU and the number is not below the count"
 abbrev pub absent : Bool → Shape → ℕ → Bool

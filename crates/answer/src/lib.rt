@@ -11,7 +11,7 @@ use register::Refusal;
 use state::Shape;
 use wake::wake_set;
 
-// What a call that is not refused answers. `retired` is `IntId::SPURIOUS` for none.
+// What a call that is not refused answers. `retired` is `IntId::SPURIOUS` for none: document 01 has the number 1023 there, and no Option.
 #[derive(Clone, Copy)]
 pub struct Reply {
     pub value: u32,
@@ -19,57 +19,43 @@ pub struct Reply {
     pub retired: IntId,
 }
 
-#[derive(Clone, Copy)]
-pub enum Answer {
-    Done(Reply),
-    Refused(Refusal),
+// What a call answers, or why it is refused.
+pub type Answer = Result<Reply, Refusal>;
+
+// The refusal's number, 0 for none.
+pub fn refusal_in(answer: Answer) -> u8
+    ensures { result ≡ refusal_in answer }
+{
+    match answer {
+        Ok(_) => 0,
+        Err(refusal) => refusal.number(),
+    }
 }
 
-impl Answer {
-    // The refusal's number, 0 for none.
-    pub fn refusal(self) -> u8
-        ensures { result ≡ refusal_in self }
-    {
-        match self {
-            Answer::Done(_) => 0,
-            Answer::Refused(refusal) => refusal.number(),
-        }
-    }
+pub fn value_in(answer: Answer) -> u32
+    ensures { result ≡ value_in answer }
+{
+    answer.map_or(0, |reply| reply.value)
+}
 
-    pub fn value(self) -> u32
-        ensures { result ≡ value_in self }
-    {
-        match self {
-            Answer::Done(reply) => reply.value,
-            Answer::Refused(_) => 0,
-        }
-    }
+// Bit v for each vCPU v that the call wakes.
+pub fn wake_in(answer: Answer) -> u8
+    ensures { result ≡ wake_in answer }
+{
+    answer.map_or(0, |reply| reply.wake)
+}
 
-    // Bit v for each vCPU v that the call wakes.
-    pub fn wake(self) -> u8
-        ensures { result ≡ wake_in self }
-    {
-        match self {
-            Answer::Done(reply) => reply.wake,
-            Answer::Refused(_) => 0,
-        }
-    }
-
-    pub fn retired(self) -> u32
-        ensures { result ≡ retired_in self }
-    {
-        match self {
-            Answer::Done(reply) => reply.retired.0,
-            Answer::Refused(_) => IntId::SPURIOUS.0,
-        }
-    }
+pub fn retired_in(answer: Answer) -> u32
+    ensures { result ≡ retired_in answer }
+{
+    answer.map_or(IntId::SPURIOUS.0, |reply| reply.retired.0)
 }
 
 // Reads and setup wake nobody and retire nothing.
 pub fn gave(value: u32) -> Answer
     ensures { (s : List ℕ) → outcome result s ≡ gave value s }
 {
-    Answer::Done(Reply {
+    Ok(Reply {
         value,
         wake: 0,
         retired: IntId::SPURIOUS,
@@ -81,7 +67,7 @@ pub fn done(words: &[u32], shape: Shape, quiet: u8, retired: IntId) -> Answer
     requires { Sound shape words.now }
     ensures { outcome result words.now ≡ done (wake_from quiet shape words.now) retired.0 words.now }
 {
-    Answer::Done(Reply {
+    Ok(Reply {
         value: 0,
         wake: wake_set(words, shape, quiet),
         retired,

@@ -1,5 +1,6 @@
 -- What a word of a bit register reads and what a write to it does, number by number, for all eight registers at once: field i is what the
 -- record of number first + i says, and a write changes exactly the records whose fields act. Assumes nothing.
+use Rattle.std.specs.Prelude.{None}
 use mathlib.Core.Path.{◌≡◌, refl, ap, ◌∙◌}
 use mathlib.Core.Bool.{Bool, true, false, cond, ◌&&◌}
 use mathlib.Core.List.{List}
@@ -10,7 +11,6 @@ use mathlib.Core.Logic.{inl}
 use borrow.Author.Tests.{lt-ltb, ltb-true}
 use Rattle.interrupt.specs.Record.{set_enabled, set_pending, set_active, cancel_inflight, set_trigger, set_owner}
 use Rattle.interrupt.specs.declared.record.InterruptRecord.{InterruptRecord}
-use Rattle.interrupt.specs.declared.record.Owner.TheVariants.{Nobody}
 use Rattle.register.specs.declared.ranges.BitRegister.{BitRegister}
 use Rattle.register.specs.declared.ranges.BitRegister.TheVariants.{Igroupr, Isenabler, Icenabler, Ispendr, Icpendr, Isactiver, Icactiver, Icfgr}
 use Rattle.word.specs.Fields.{field_at}
@@ -43,7 +43,7 @@ cleared_in_range : (r : InterruptRecord) → InRange r → InRange (clear_active
 unfolding clear_active set_owner cancel_inflight set_active
 cleared_in_range r h = go r.inflight
   where
-    go : (b : Bool) → InRange (cond b (set_owner (cancel_inflight (set_active r false)) Nobody) (set_active r false))
+    go : (b : Bool) → InRange (cond b (set_owner (cancel_inflight (set_active r false)) None) (set_active r false))
     go true = record { priority_byte = h.priority_byte; mask_byte_lem = h.mask_byte_lem; owner_byte_lem = tt }
     go false = record { priority_byte = h.priority_byte; mask_byte_lem = h.mask_byte_lem; owner_byte_lem = h.owner_byte_lem }
 

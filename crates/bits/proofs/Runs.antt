@@ -4,7 +4,6 @@ use mathlib.Core.Bool.{Bool, true, false, cond, ◌&&◌}
 use mathlib.Core.List.{List}
 use Prim.Native.Nat.{ℕ, suc, ◌+◌, ◌*◌, ◌^◌, ◌≤◌, ◌<◌}
 use native.Mathlib.Nat.{lt_of_le_of_lt}
-use native.Mathlib.Numerals.{add-one}
 use native.Mathlib.Omega.{arith}
 use lib.Dec.{ltb}
 use lib.ListN.{length, get_or}
@@ -75,7 +74,7 @@ module _ (shape : Shape) (register : BitRegister) (v first there : ℕ) (s : Lis
   run_writes value =
       sym (up_idle (λ i. write_number shape register v (first + i) (field_at (field_bits register) i value)) s (per_word register) there e.few (λ i r a b. unfold write_number in simp (past i a b)))
 
--- a read goes over the records there are
+-- a read and a write go over the records there are
 module _ (shape : Shape) (register : BitRegister) (v first there k base : ℕ) (s : List ℕ) (word : BitWordAt shape register v first s) (p : k ≡ per_word register)
     (some : Existing shape.limit first k there) (placed : Placed shape (record_slot v first) base) where
   pub run_at : k < 33 → RunAt register base there s
@@ -86,6 +85,22 @@ module _ (shape : Shape) (register : BitRegister) (v first there k base : ℕ) (
 
   pub run_read : (r : ℕ) → r ≡ gathered (field_bits register) (field_in register base s) there → r ≡ read_bits shape register v first s
   run_read r q = q ∙ rw placed.at (run_reads shape register v first there s word (rw p at some))
+
+  pub next_reached : (i : ℕ) (r : List ℕ) → i < there → length r ≡ length s → Reached shape v (first + i) r
+  next_reached i r h long = record {
+    state = record { limits = word.state.limits; room = rw long word.state.room };
+    there = record { numbered = omega arith; banked = λ b. word.banked (omega arith) };
+  }
+
+  pub next_placed : (i : ℕ) → i < there → Placed shape (record_slot v (first + i)) (base + i)
+  next_placed i h =
+      let e : Existing shape.limit first (per_word register) there = rw p at some in
+      let inside : place shape (record_slot v first) + there ≤ size shape = run_inside shape register v first there s word e in
+      record { at = rw (placed.at, beside shape register v first there s word e i h); inside = rw placed.at (omega arith) }
+
+  pub run_written : (value i : ℕ) (r : List ℕ) → i ≤ there → there ≤ i → r ≡ up_to (λ j. write_number shape register v (first + j) (field_at (field_bits register) j value)) i s
+      → r ≡ write_bits shape register v first value s
+  run_written value i r a b q = let e : i ≡ there = omega arith in q ∙ rw e (run_writes shape register v first there s word (rw p at some) value)
 
 -- one number written: its field acts, or it does not
 module _ (shape : Shape) (register : BitRegister) (v n x : ℕ) (s : List ℕ) (q : Bool) where
@@ -101,53 +116,6 @@ module _ (shape : Shape) (register : BitRegister) (v n x : ℕ) (s : List ℕ) (
       either : (b : Bool) → cond (b && false) (changed shape v n (act register x) s) s ≡ s
       either true = refl
       either false = refl
-
--- how far a write has come: of the records there are, the first i are written
-pub record WrittenSoFar (shape : Shape) (register : BitRegister) (v first value there base : ℕ) (s : List ℕ) (i : ℕ) (r : List ℕ) : Type 0 where
-  pub word : BitWordAt shape register v first s
-  pub some : Existing shape.limit first (per_word register) there
-  pub based : base ≡ place shape (record_slot v first)
-  pub below : i ≤ there
-  pub long : length r ≡ length s
-  pub done : r ≡ up_to (λ j. write_number shape register v (first + j) (field_at (field_bits register) j value)) i s
-
-module _ {shape : Shape} {register : BitRegister} {v first value there base : ℕ} {s : List ℕ} where
-  pub write_starts : {k : ℕ} → BitWordAt shape register v first s → k ≡ per_word register → Existing shape.limit first k there
-      → Placed shape (record_slot v first) base → WrittenSoFar shape register v first value there base s 0 s
-  unfolding up_to
-  write_starts word p some placed = record { word = word; some = rw p at some; based = placed.at; below = omega arith; long = refl; done = refl }
-
-  module _ {i : ℕ} {r : List ℕ} (so_far : WrittenSoFar shape register v first value there base s i r) where
-    pub next_field : i < there → i < per_word register
-    next_field h = omega arith
-
-    pub next_reached : i < there → Reached shape v (first + i) r
-    next_reached h = record {
-      state = record { limits = so_far.word.state.limits; room = rw so_far.long so_far.word.state.room };
-      there = record { numbered = omega arith; banked = λ b. so_far.word.banked (omega arith) };
-    }
-
-    pub next_placed : i < there → Placed shape (record_slot v (first + i)) (base + i)
-    next_placed h =
-        let inside : place shape (record_slot v first) + there ≤ size shape = run_inside shape register v first there s so_far.word so_far.some in
-        record { at = rw (so_far.based, beside shape register v first there s so_far.word so_far.some i h); inside = rw so_far.based (omega arith) }
-
-    pub write_goes_on : {x : ℕ} {r₁ : List ℕ} → i < there → x ≡ field_at (field_bits register) i value → r₁ ≡ write_number shape register v (first + i) x r → length r₁ ≡ length r
-        → WrittenSoFar shape register v first value there base s (i + 1) r₁
-    unfolding up_to
-    write_goes_on h p q long = record {
-      word = so_far.word;
-      some = so_far.some;
-      based = so_far.based;
-      below = omega arith;
-      long = long ∙ so_far.long;
-      done = rw add-one (q ∙ simp (p, so_far.done));
-    }
-
-    pub write_ends : there ≤ i → r ≡ write_bits shape register v first value s
-    write_ends h =
-        let e : i ≡ there = omega arith in
-        so_far.done ∙ rw e (run_writes shape register v first there s so_far.word so_far.some value)
 
 -- a word from the limit up has no records
 none : (limit first k : ℕ) → limit ≤ first → (i : ℕ) → 0 ≤ i → i < k → ltb (first + i) limit ≡ false

@@ -1,10 +1,9 @@
 -- The bit registers: document 01, "Distributor places"; IHI 0048, 4.3.4 to 4.3.10 and 4.3.13. Each word has a field for each of its
 -- numbers, of one bit, in ICFGR of two.
-use Rattle.std.specs.Prelude.{Bool, true, false, not, cond, ◌&&◌, List, ℕ, ◌+◌, ◌*◌, ◌/◌, ◌≤◌, ◌<◌, eqb, ltb}
+use Rattle.std.specs.Prelude.{Bool, true, false, not, cond, ◌&&◌, List, ℕ, ◌+◌, ◌*◌, ◌/◌, ◌≤◌, ◌<◌, eqb, ltb, None}
 use Rattle.interrupt.specs.Types.{is_sgi, is_level}
 use Rattle.interrupt.specs.Record.{set_enabled, set_pending, set_active, cancel_inflight, set_trigger, set_owner}
 use Rattle.interrupt.specs.declared.record.InterruptRecord.{InterruptRecord}
-use Rattle.interrupt.specs.declared.record.Owner.TheVariants.{Nobody}
 use Rattle.register.specs.declared.ranges.BitRegister.{BitRegister}
 use Rattle.register.specs.declared.ranges.BitRegister.TheVariants.{Igroupr, Isenabler, Icenabler, Ispendr, Icpendr, Isactiver, Icactiver, Icfgr}
 use Rattle.word.specs.Word.{bit_of, trigger_of}
@@ -65,7 +64,7 @@ acts Icfgr n x = not (is_sgi (record { 0 = n }))
 
 -- "ICACTIVER calls `cancel_inflight` too where the record is in flight, and its owner is forgotten"
 unfoldable pub clear_active : InterruptRecord → InterruptRecord
-clear_active r = cond r.inflight (set_owner (cancel_inflight (set_active r false)) Nobody) (set_active r false)
+clear_active r = cond r.inflight (set_owner (cancel_inflight (set_active r false)) None) (set_active r false)
 
 -- what they do: "to a set register calls `set_enabled`, `set_pending` or `set_active` with true, to a clear register with false"
 abbrev pub act : BitRegister → ℕ → InterruptRecord → InterruptRecord

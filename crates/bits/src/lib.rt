@@ -2,35 +2,24 @@
 #![tactic(auto)]
 
 ghost use Rattle.std.specs.Prelude.{◌≡◌, ◌+◌, ◌*◌, ◌^◌, ◌<◌};
-ghost use Rattle.interrupt.specs.Record.{set_trigger};
-ghost use Rattle.word.specs.Word.{trigger_of};
 ghost use Rattle.state.specs.Layout.{Placed};
 ghost use Rattle.state.specs.Words.{record_slot, Reached};
 ghost use Rattle.word.specs.Fields.{field_at, gathered};
 ghost use Rattle.bits.specs.Bits.{is_config, field_bits, per_word, read_bits, acts, clear_active, act, write_number, write_bits, BitWordAt};
 ghost use Rattle.bits.specs.Run.{Existing, FieldShift, RunAt, flag_place, flag_weight, shown, field_in};
 
-use interrupt::{GicVcpuId, IntId, InterruptRecord, Owner, TriggerMode};
+use interrupt::{GicVcpuId, IntId, InterruptRecord};
 use register::BitRegister;
 use state::Shape;
 use state::layout::record_place;
 use state::words::put_record_at;
-use word::decode;
+use word::{decode, trigger_of};
 
 // ICFGR has two bits for each number, the others one.
 fn is_config(register: BitRegister) -> bool
     ensures { result ≡ is_config register }
 {
-    match register {
-        BitRegister::Igroupr => false,
-        BitRegister::Isenabler => false,
-        BitRegister::Icenabler => false,
-        BitRegister::Ispendr => false,
-        BitRegister::Icpendr => false,
-        BitRegister::Isactiver => false,
-        BitRegister::Icactiver => false,
-        BitRegister::Icfgr => true,
-    }
+    matches!(register, BitRegister::Icfgr)
 }
 
 pub fn per_word(register: BitRegister) -> u32
@@ -71,12 +60,9 @@ fn flag_place(register: BitRegister) -> u32
 {
     match register {
         BitRegister::Igroupr => 0,
-        BitRegister::Isenabler => 0,
-        BitRegister::Icenabler => 0,
-        BitRegister::Ispendr => 1,
-        BitRegister::Icpendr => 1,
-        BitRegister::Isactiver => 2,
-        BitRegister::Icactiver => 2,
+        BitRegister::Isenabler | BitRegister::Icenabler => 0,
+        BitRegister::Ispendr | BitRegister::Icpendr => 1,
+        BitRegister::Isactiver | BitRegister::Icactiver => 2,
         BitRegister::Icfgr => 6,
     }
 }
@@ -87,13 +73,8 @@ fn flag_weight(register: BitRegister) -> u32
 {
     match register {
         BitRegister::Igroupr => 0,
-        BitRegister::Isenabler => 1,
-        BitRegister::Icenabler => 1,
-        BitRegister::Ispendr => 1,
-        BitRegister::Icpendr => 1,
-        BitRegister::Isactiver => 1,
-        BitRegister::Icactiver => 1,
         BitRegister::Icfgr => 2,
+        _ => 1,
     }
 }
 
@@ -114,6 +95,7 @@ fn existing(shape: Shape, first: IntId, numbers: u32) -> u32
 }
 
 // The fields of `there` records from the place `base` up.
+#[tactic(auto, using(crate::proofs::BitLaws::shown_field, crate::proofs::Runs::run_fits), unfolding(word::specs::Fields::gathered))]
 fn read_run(words: &[u32], base: usize, register: BitRegister, there: u32) -> u32
     requires { RunAt register base there words.now }
     ensures { result ≡ gathered (field_bits register) (field_in register base words.now) there }
@@ -121,11 +103,9 @@ fn read_run(words: &[u32], base: usize, register: BitRegister, there: u32) -> u3
     let place = flag_place(register);
     let weight = flag_weight(register);
     let mut value: u32 = 0;
-    let mut i: u32 = 0;
-    while i < there {
+    for i in 0..there {
         let field = read_field(place, weight, words[base + i as usize]);
         value += field_placed(register, field, i);
-        i += 1;
     }
     value
 }
@@ -155,12 +135,9 @@ fn acts(register: BitRegister, intid: IntId, field: u32) -> bool
     let free = !intid.is_sgi();
     match register {
         BitRegister::Igroupr => false,
-        BitRegister::Isenabler => one,
-        BitRegister::Icenabler => one,
-        BitRegister::Ispendr => one & free,
-        BitRegister::Icpendr => one & free,
-        BitRegister::Isactiver => one,
-        BitRegister::Icactiver => one,
+        BitRegister::Isenabler | BitRegister::Icenabler => one,
+        BitRegister::Ispendr | BitRegister::Icpendr => one & free,
+        BitRegister::Isactiver | BitRegister::Icactiver => one,
         BitRegister::Icfgr => free,
     }
 }
@@ -171,19 +148,9 @@ fn clear_active(record: InterruptRecord) -> InterruptRecord
 {
     let cleared = record.set_active(false);
     if record.inflight {
-        cleared.cancel_inflight().set_owner(Owner::Nobody)
+        cleared.cancel_inflight().set_owner(None)
     } else {
         cleared
-    }
-}
-
-fn configured(record: InterruptRecord, edge: bool) -> InterruptRecord
-    ensures { result ≡ set_trigger «record» (trigger_of edge) }
-{
-    if edge {
-        record.set_trigger(TriggerMode::Edge)
-    } else {
-        record.set_trigger(TriggerMode::Level)
     }
 }
 
@@ -198,7 +165,7 @@ fn act(register: BitRegister, field: u32, record: InterruptRecord) -> InterruptR
         BitRegister::Icpendr => record.set_pending(false),
         BitRegister::Isactiver => record.set_active(true),
         BitRegister::Icactiver => clear_active(record),
-        BitRegister::Icfgr => configured(record, field / 2 == 1),
+        BitRegister::Icfgr => record.set_trigger(trigger_of(field / 2 == 1)),
     }
 }
 
@@ -222,6 +189,7 @@ fn write_number(
 }
 
 // The records of a word stand side by side: the place of the first gives the others.
+#[tactic(auto, using(crate::proofs::Runs::none_writes), unfolding(state::specs::Loop::up_to))]
 pub fn write_bits(
     words: &mut [u32],
     shape: Shape,
@@ -238,8 +206,7 @@ pub fn write_bits(
     }
     let there = existing(shape, first, per_word(register));
     let base = record_place(shape, vcpu, first);
-    let mut i: u32 = 0;
-    while i < there {
+    for i in 0..there {
         let field = field_of(register, value, i);
         let intid = IntId(first.0 + i);
         write_number(
@@ -251,6 +218,5 @@ pub fn write_bits(
             base + i as usize,
             field,
         );
-        i += 1;
     }
 }

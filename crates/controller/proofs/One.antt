@@ -1,5 +1,6 @@
 -- Each call's promise, as its `ensures` has it, admits one outcome: two answers and states that it allows for the same inputs are the same answer,
 -- case by case and number by number, and the same words; a save's buffers are the same too. Assumes nothing.
+use Rattle.std.specs.Prelude.{Ok, Err}
 use mathlib.Core.Path.{◌≡◌, refl, sym, ap, ◌∙◌}
 use mathlib.Core.Bool.{Bool, cond}
 use mathlib.Core.List.{List}
@@ -10,10 +11,8 @@ use Rattle.register.specs.declared.frame.AccessWidth.{AccessWidth}
 use Rattle.register.specs.declared.frame.Refusal.{Refusal}
 use Rattle.register.specs.declared.frame.Refusal.TheVariants.{Access, Width, Vcpu, Limits, ShortState, BrokenState, FullStack, Input, Unlawful, NoRoom, Window}
 use Rattle.register.specs.Frame.{refusal_number}
-use Rattle.answer.specs.declared.Answer.{Answer}
-use Rattle.answer.specs.declared.Answer.TheVariants.{Done, Refused}
 use Rattle.answer.specs.declared.Reply.{Reply}
-use Rattle.answer.specs.Answer.{Outcome, outcome, AdmitsOne}
+use Rattle.answer.specs.Answer.{Answer, Outcome, outcome, AdmitsOne}
 use Rattle.controller.specs.Start.{setup, SetupPromise}
 use Rattle.distributor_frame.specs.DistributorFrame.{read_v2_distributor, write_v2_distributor, ReadDistributorPromise, WriteDistributorPromise}
 use Rattle.cpu_interface_frame.specs.CpuInterfaceFrame.{read_v2_cpu_interface, write_v2_cpu_interface, ReadCpuInterfacePromise, WriteCpuInterfacePromise}
@@ -76,10 +75,10 @@ replied r q a b c =
     made x w n = record { value = x; wake = w; retired = record { 0 = n } }
 
 same_answer : (a b : Answer) (x y : List ℕ) → outcome a x ≡ outcome b y → a ≡ b
-same_answer (Done r) (Done q) x y p = ap Done (replied r q (ap (λ (o : Outcome). o.value) p) (ap (λ (o : Outcome). o.wake) p) (ap (λ (o : Outcome). o.retired) p))
-same_answer (Done r) (Refused q) x y p = absurd (some_number q (ap (λ (o : Outcome). o.refusal) p))
-same_answer (Refused r) (Done q) x y p = absurd (some_number r (sym (ap (λ (o : Outcome). o.refusal) p)))
-same_answer (Refused r) (Refused q) x y p = ap Refused (numbered r q (ap (λ (o : Outcome). o.refusal) p))
+same_answer (Ok r) (Ok q) x y p = ap Ok (replied r q (ap (λ (o : Outcome). o.value) p) (ap (λ (o : Outcome). o.wake) p) (ap (λ (o : Outcome). o.retired) p))
+same_answer (Ok r) (Err q) x y p = absurd (some_number q (ap (λ (o : Outcome). o.refusal) p))
+same_answer (Err r) (Ok q) x y p = absurd (some_number r (sym (ap (λ (o : Outcome). o.refusal) p)))
+same_answer (Err r) (Err q) x y p = ap Err (numbered r q (ap (λ (o : Outcome). o.refusal) p))
 
 -- two answers and states of one meaning
 one : (meaning : Outcome) (a b : Answer) (x y : List ℕ) → outcome a x ≡ meaning → outcome b y ≡ meaning → (a ≡ b) × (x ≡ y)

@@ -1,6 +1,6 @@
 -- What each register of a CPU interface reads, what a write to it does, and where its vCPU is looked up: document 01, "CPU interface places" and
 -- "Refusal numbers"; IHI 0048, Table 4-2, "CPU interface register map".
-use Rattle.std.specs.Prelude.{◌≡◌, Bool, true, false, List, ℕ}
+use Rattle.std.specs.Prelude.{◌≡◌, Bool, true, false, List, ℕ, Option, Some}
 use Rattle.interrupt.specs.Types.{is_valid}
 use Rattle.register.specs.declared.cpu_interface.CpuInterfaceRegister.{CpuInterfaceRegister}
 use Rattle.register.specs.declared.cpu_interface.CpuInterfaceRegister.TheVariants.{Ctlr, Pmr, Bpr, Iar, Eoir, Rpr, Hppir, Abpr, Aiar, Aeoir, Ahppir, Apr, Iidr, Dir, Other}
@@ -12,8 +12,6 @@ use Rattle.state.specs.Words.{interface_at, with_interface, enabled_at}
 use Rattle.distributor.specs.Values.{iidr}
 use Rattle.select.specs.Select.{highest_pending}
 use Rattle.service.specs.Service.{running, Served}
-use Rattle.acknowledge.specs.declared.Read.{Read}
-use Rattle.acknowledge.specs.declared.Read.TheVariants.{Value}
 use Rattle.acknowledge.specs.Acknowledge.{acknowledge, acknowledged}
 use Rattle.end.specs.End.{decoded_eoi, eoi_state, eoi_retired, dir_state, dir_retired}
 
@@ -98,9 +96,9 @@ rule_of Dir = dir_rule
 rule_of Other = rest_rule
 
 -- a read: the answer, and the state after it
-abbrev pub read_by : Shape → ℕ → ReadRule → List ℕ → Read
-read_by shape v (Constant x) s = Value x
-read_by shape v (Shows f) s = Value (f shape v s)
+abbrev pub read_by : Shape → ℕ → ReadRule → List ℕ → Option ℕ
+read_by shape v (Constant x) s = Some x
+read_by shape v (Shows f) s = Some (f shape v s)
 read_by shape v Acknowledges s = acknowledge shape v s
 
 abbrev pub after_read_by : Shape → ℕ → ReadRule → List ℕ → List ℕ
@@ -144,7 +142,7 @@ write_by_looks_up Ends value = decodes value
 write_by_looks_up Deactivates value = decodes value
 
 -- the same of a register
-abbrev pub read_register : Shape → ℕ → CpuInterfaceRegister → List ℕ → Read
+abbrev pub read_register : Shape → ℕ → CpuInterfaceRegister → List ℕ → Option ℕ
 read_register shape v register s = read_by shape v (rule_of register).reads s
 
 abbrev pub after_read : Shape → ℕ → CpuInterfaceRegister → List ℕ → List ℕ

@@ -1,4 +1,3 @@
 -- Laws that belong to no one function.
-pub mod Called
 pub mod Passed
 pub mod Wakes

@@ -1,9 +1,9 @@
 -- A write to a CPU interface wakes at the most its own vCPU, and whom the record is for that it deactivates. In any words. Assumes nothing.
+use Rattle.std.specs.Prelude.{Option, Some, None}
 use mathlib.Core.Path.{◌≡◌, refl, ap, ◌∙◌}
 use mathlib.Core.Bool.{Bool, true, false, cond}
 use mathlib.Core.List.{List}
 use mathlib.Core.Logic.{inl, inr}
-use mathlib.Core.Option.{some}
 use Prim.Native.Nat.{ℕ, ◌/◌, ◌%◌, ◌-◌, ◌^◌, ◌≤◌, ◌<◌, max}
 use native.Mathlib.Omega.{arith}
 use lib.Bits.{bit_or, or_step, or_shr}
@@ -12,8 +12,6 @@ use borrow.Author.Tests.{eqb-false, ne_eqb}
 use Rattle.interrupt.specs.Types.{decoded, is_valid}
 use Rattle.interrupt.specs.Record.{set_owner, deactivate_inflight, complete}
 use Rattle.interrupt.specs.declared.record.InterruptRecord.{InterruptRecord}
-use Rattle.interrupt.specs.declared.types.DecodedIntId.{DecodedIntId}
-use Rattle.interrupt.specs.declared.types.DecodedIntId.TheVariants.{Valid, Reserved}
 use Rattle.word.specs.Word.{record_of, word_of}
 use Rattle.state.specs.declared.layout.Shape.{Shape}
 use Rattle.state.specs.declared.layout.InterfaceValue.TheVariants.{Depth}
@@ -37,6 +35,7 @@ use Rattle.wake.proofs.Unseen.{Aside, Unseen, unseen_none, unseen_kept, unseen_w
 use Rattle.wake.proofs.Seen.{own_bit, not_for_it}
 use Rattle.wake.proofs.WakeSets.{wake_among}
 use Rattle.cpu_interface_frame.specs.Seers.{write_seers}
+use Rattle.interrupt.specs.declared.types.IntId.{IntId}
 
 -- a bit that neither of two bytes has
 or_bit : (a b u : ℕ) → bit_or a b / 2 ^ u % 2 ≡ max (a / 2 ^ u % 2) (b / 2 ^ u % 2)
@@ -77,7 +76,7 @@ module _ (shape : Shape) (v n : ℕ) (s : List ℕ) (h : Sound shape s) (u : ℕ
     few : v < 8
     few = omega (arith, h.state.limits.few_vcpus)
 
-    others : (t : Slot) → vcpu_of t ≡ some v → Aside u (record_slot v n) t
+    others : (t : Slot) → vcpu_of t ≡ Some v → Aside u (record_slot v n) t
     others t e = inr (record { whose = v; is = e; apart = own_bit v u few own })
 
     numbered : n < shape.limit → RecordThere shape v n
@@ -122,11 +121,11 @@ module _ (shape : Shape) (v value : ℕ) (s : List ℕ) (h : Sound shape s) wher
     resting : Idle s
     resting = idle shape v n s h u exists own seen
 
-    decoding : (f : DecodedIntId → List ℕ) → f Reserved ≡ s → ((v < shape.count) → Idle (f (Valid (record { 0 = n })))) → (is_valid (decoded_eoi value) ≡ true → v < shape.count) → Idle (f (decoded_eoi value))
+    decoding : (f : Option IntId → List ℕ) → f None ≡ s → ((v < shape.count) → Idle (f (Some (record { 0 = n })))) → (is_valid (decoded_eoi value) ≡ true → v < shape.count) → Idle (f (decoded_eoi value))
     unfolding decoded
     decoding f none valid there = go (ltb n 1020) there
       where
-        go : (b : Bool) → (is_valid (cond b (Valid (record { 0 = n })) Reserved) ≡ true → v < shape.count) → Idle (f (cond b (Valid (record { 0 = n })) Reserved))
+        go : (b : Bool) → (is_valid (cond b (Some (record { 0 = n })) None) ≡ true → v < shape.count) → Idle (f (cond b (Some (record { 0 = n })) None))
         go true here = valid (here refl)
         go false here = rw none resting
 

@@ -1,25 +1,21 @@
 -- The frame of a CPU interface: document 01, "Refusal numbers" and "CPU interface places". An acknowledge that is refused by 7 leaves the
 -- state as found.
-use Rattle.std.specs.Prelude.{◌≡◌, List, ℕ, ◌%◌, ◌^◌}
+use Rattle.std.specs.Prelude.{◌≡◌, List, ℕ, ◌%◌, ◌^◌, Option, Some, None, Result, Ok, Err}
 use Rattle.register.specs.declared.frame.AccessWidth.{AccessWidth}
 use Rattle.register.specs.declared.frame.Refusal.TheVariants.{FullStack}
 use Rattle.register.specs.declared.cpu_interface.CpuInterfaceRegister.{CpuInterfaceRegister}
-use Rattle.register.specs.declared.cpu_interface.CpuInterfaceAccess.{CpuInterfaceAccess}
-use Rattle.register.specs.declared.cpu_interface.CpuInterfaceAccess.TheVariants.{Refused, At}
 use Rattle.register.specs.CpuInterface.{locate_cpu_interface}
 use Rattle.state.specs.declared.layout.Shape.{Shape}
 use Rattle.state.specs.Lent.{validated}
 use Rattle.state.specs.Words.{enabled_at}
-use Rattle.acknowledge.specs.declared.Read.{Read}
-use Rattle.acknowledge.specs.declared.Read.TheVariants.{Value, StackFull}
 use Rattle.cpu_interface.specs.CpuInterface.{read_register, after_read, write_register, write_retired, read_register_looks_up, write_register_looks_up}
-use Rattle.answer.specs.declared.Answer.{Answer}
-use Rattle.answer.specs.Answer.{Outcome, outcome, refused, gave, went, on_state, looked_up}
+use Rattle.answer.specs.Answer.{Answer, Outcome, outcome, refused, gave, went, on_state, looked_up}
+use Rattle.register.specs.declared.frame.Refusal.{Refusal}
 
 -- what was read in the state s, which is r afterwards
-abbrev pub read_answer : Read → List ℕ → List ℕ → Outcome
-read_answer (Value x) s r = gave x r
-read_answer StackFull s r = refused FullStack s
+abbrev pub read_answer : Option ℕ → List ℕ → List ℕ → Outcome
+read_answer (Some x) s r = gave x r
+read_answer None s r = refused FullStack s
 
 abbrev pub read_interface_at : Shape → ℕ → CpuInterfaceRegister → List ℕ → Outcome
 read_interface_at shape v register s =
@@ -29,13 +25,13 @@ abbrev pub write_interface_at : Shape → ℕ → CpuInterfaceRegister → ℕ �
 write_interface_at shape v register value s =
     looked_up (write_register_looks_up register value) shape v s (went shape (write_retired shape v register value s) s (write_register shape v register value s))
 
-abbrev pub read_interface_access : Shape → ℕ → CpuInterfaceAccess → List ℕ → Outcome
-read_interface_access shape v (Refused r) s = refused r s
-read_interface_access shape v (At register) s = read_interface_at shape v register s
+abbrev pub read_interface_access : Shape → ℕ → Result CpuInterfaceRegister Refusal → List ℕ → Outcome
+read_interface_access shape v (Err r) s = refused r s
+read_interface_access shape v (Ok register) s = read_interface_at shape v register s
 
-abbrev pub write_interface_access : Shape → ℕ → CpuInterfaceAccess → ℕ → List ℕ → Outcome
-write_interface_access shape v (Refused r) value s = refused r s
-write_interface_access shape v (At register) value s = write_interface_at shape v register value s
+abbrev pub write_interface_access : Shape → ℕ → Result CpuInterfaceRegister Refusal → ℕ → List ℕ → Outcome
+write_interface_access shape v (Err r) value s = refused r s
+write_interface_access shape v (Ok register) value s = write_interface_at shape v register value s
 
 unfoldable pub read_v2_cpu_interface : ℕ → ℕ → AccessWidth → List ℕ → Outcome
 read_v2_cpu_interface v offset width s = on_state (validated s) s (λ shape. read_interface_access shape v (locate_cpu_interface offset width) s)

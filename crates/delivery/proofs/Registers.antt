@@ -1,12 +1,11 @@
 -- What an acknowledge, a value written, EOIR and Deactivate keep, every access to a CPU interface keeps: the cases of the two tables, once.
 -- Assumes nothing.
+use Rattle.std.specs.Prelude.{Option, Some, None}
 use mathlib.Core.Path.{◌≡◌, refl}
 use mathlib.Core.Bool.{Bool, true, false}
 use mathlib.Core.List.{List}
 use Prim.Native.Nat.{ℕ, ◌<◌}
 use Rattle.interrupt.specs.Types.{is_valid}
-use Rattle.interrupt.specs.declared.types.DecodedIntId.{DecodedIntId}
-use Rattle.interrupt.specs.declared.types.DecodedIntId.TheVariants.{Valid, Reserved}
 use Rattle.register.specs.declared.cpu_interface.CpuInterfaceRegister.{CpuInterfaceRegister}
 use Rattle.register.specs.declared.cpu_interface.CpuInterfaceRegister.TheVariants.{Ctlr, Pmr, Bpr, Iar, Eoir, Rpr, Hppir, Abpr, Aiar, Aeoir, Ahppir, Apr, Iidr, Dir, Other}
 use Rattle.state.specs.declared.layout.Shape.{Shape}
@@ -14,16 +13,15 @@ use Rattle.state.specs.declared.layout.InterfaceValue.{InterfaceValue}
 use Rattle.state.specs.Layout.{Interface}
 use Rattle.state.specs.Words.{with_interface, enabled_at}
 use Rattle.state.proofs.Canonical.{OffStack}
-use Rattle.acknowledge.specs.declared.Read.{Read}
-use Rattle.acknowledge.specs.declared.Read.TheVariants.{Value}
 use Rattle.acknowledge.specs.Acknowledge.{offer, taken, acknowledge, acknowledged}
 use Rattle.end.specs.End.{decoded_eoi, deactivated, retired, ended, end_retired, eoi_state, eoi_retired, dir_state, dir_retired}
 use Rattle.cpu_interface.specs.CpuInterface.{ReadRule, Constant, Shows, Acknowledges, WriteRule, Ignored, Keeps, Ends, Deactivates, rule_of, read_by, after_read_by, read_by_looks_up, is_acknowledge, write_by, retired_by, write_by_looks_up, read_register, acknowledging, after_read, write_register, write_retired, read_register_looks_up, write_register_looks_up}
+use Rattle.interrupt.specs.declared.types.IntId.{IntId}
 
 -- a read acknowledges, or gives a value and changes nothing; P is of the register, of whether its vCPU is looked up, of the answer and of the
 -- state after
-module _ (shape : Shape) (v : ℕ) (s : List ℕ) (P : CpuInterfaceRegister → Bool → Read → List ℕ → Type 0)
-    (gives : (register : CpuInterfaceRegister) → acknowledging register ≡ false → (looks_up : Bool) (x : ℕ) → P register looks_up (Value x) s)
+module _ (shape : Shape) (v : ℕ) (s : List ℕ) (P : CpuInterfaceRegister → Bool → Option ℕ → List ℕ → Type 0)
+    (gives : (register : CpuInterfaceRegister) → acknowledging register ≡ false → (looks_up : Bool) (x : ℕ) → P register looks_up (Some x) s)
     (acknowledges : (register : CpuInterfaceRegister) → acknowledging register ≡ true → P register (enabled_at shape s) (acknowledge shape v s) (acknowledged shape v s)) where
   pub each_read : (register : CpuInterfaceRegister) → P register (read_register_looks_up register (enabled_at shape s)) (read_register shape v register s) (after_read shape v register s)
   each_read register = go (rule_of register).reads refl
@@ -64,13 +62,13 @@ module _ (shape : Shape) (v : ℕ) (s : List ℕ) (value : ℕ) (P : Bool → �
     (keeps : (k : InterfaceValue) → OffStack (Interface v k) → P true 1023 (with_interface shape v k value s))
     (ends : (n : ℕ) → P true (end_retired shape v n s) (ended shape v n s))
     (deactivates : (n : ℕ) → P true (retired shape v n s) (deactivated shape v n s)) where
-  eoi_case : (number : DecodedIntId) → P (is_valid number) (eoi_retired shape v number s) (eoi_state shape v number s)
-  eoi_case Reserved = nothing false
-  eoi_case (Valid n) = ends n.0
+  eoi_case : (number : Option IntId) → P (is_valid number) (eoi_retired shape v number s) (eoi_state shape v number s)
+  eoi_case None = nothing false
+  eoi_case (Some n) = ends n.0
 
-  dir_case : (number : DecodedIntId) → P (is_valid number) (dir_retired shape v number s) (dir_state shape v number s)
-  dir_case Reserved = nothing false
-  dir_case (Valid n) = deactivates n.0
+  dir_case : (number : Option IntId) → P (is_valid number) (dir_retired shape v number s) (dir_state shape v number s)
+  dir_case None = nothing false
+  dir_case (Some n) = deactivates n.0
 
   by_rule : (r : WriteRule) → OffDepths v r → P (write_by_looks_up r value) (retired_by shape v r value s) (write_by shape v r value s)
   by_rule Ignored off = nothing false

@@ -45,8 +45,9 @@ fn read_byte(
     match register {
         ByteRegister::Ipriorityr => read_priority(words, shape, vcpu, intid),
         ByteRegister::Itargetsr => read_target(words, shape, vcpu, intid),
-        ByteRegister::Cpendsgir => sgi_sources(words, shape, vcpu, intid),
-        ByteRegister::Spendsgir => sgi_sources(words, shape, vcpu, intid),
+        ByteRegister::Cpendsgir | ByteRegister::Spendsgir => {
+            sgi_sources(words, shape, vcpu, intid)
+        }
     }
 }
 
@@ -84,6 +85,7 @@ fn byte_placed(byte: u8, i: u32) -> u32
 }
 
 // `count` bytes, the first number's lowest.
+#[tactic(auto, unfolding(word::specs::Fields::gathered, crate::specs::Bytes::read_bytes))]
 pub fn read_bytes(
     words: &[u32],
     shape: Shape,
@@ -96,15 +98,14 @@ pub fn read_bytes(
     ensures { result ≡ read_bytes shape register vcpu.0 first.0 count words.now }
 {
     let mut value: u32 = 0;
-    let mut i: u32 = 0;
-    while i < count {
+    for i in 0..count {
         let byte = read_byte(words, shape, vcpu, register, IntId(first.0 + i));
         value += byte_placed(byte, i);
-        i += 1;
     }
     value
 }
 
+#[tactic(auto, unfolding(state::specs::Loop::up_to, crate::specs::Bytes::write_bytes))]
 pub fn write_bytes(
     words: &mut [u32],
     shape: Shape,
@@ -117,8 +118,7 @@ pub fn write_bytes(
     requires { BytesAt shape register vcpu.0 first.0 count words.old }
     ensures { words.new ≡ write_bytes shape register vcpu.0 first.0 count value words.old }
 {
-    let mut i: u32 = 0;
-    while i < count {
+    for i in 0..count {
         write_byte(
             words,
             shape,
@@ -127,6 +127,5 @@ pub fn write_bytes(
             IntId(first.0 + i),
             byte_of(value, i),
         );
-        i += 1;
     }
 }

@@ -11,8 +11,7 @@ use Rattle.register.specs.Distributor.{locate_distributor}
 use Rattle.state.specs.declared.layout.Shape.{Shape}
 use Rattle.state.specs.Lent.{validated}
 use Rattle.places.specs.Places.{read_place_looks_up, write_place_looks_up, read_place, write_place}
-use Rattle.answer.specs.declared.Answer.{Answer}
-use Rattle.answer.specs.Answer.{Outcome, outcome, refused, gave, went, on_state, looked_up}
+use Rattle.answer.specs.Answer.{Answer, Outcome, outcome, refused, gave, went, on_state, looked_up}
 
 abbrev pub private_width : Shape → ℕ → List ℕ → Outcome
 private_width shape v s = looked_up true shape v s (refused refusal.Width s)

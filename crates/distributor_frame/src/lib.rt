@@ -10,22 +10,21 @@ ghost use Rattle.distributor_frame.specs.DistributorFrame.{private_width, read_d
 use answer::{Answer, absent, done, gave};
 use interrupt::{GicVcpuId, IntId};
 use places::{read_looks_up, read_place, write_looks_up, write_place};
-use register::{AccessWidth, DistributorAccess, Place, Refusal, locate_distributor};
+use register::{
+    AccessWidth, DistributorAccess, Place, Refusal, locate_distributor, register_value,
+};
+use state::Shape;
 use state::lent::validate_state;
-use state::{Lent, Shape};
 use wake::quiet_vcpus;
-
-// How many values 32 bits have: no register takes more.
-const REGISTER_VALUES: u64 = 0x1_0000_0000;
 
 // A private register at a width that it does not take: 3 comes before 2.
 fn private_width(shape: Shape, vcpu: GicVcpuId) -> Answer
     ensures { (s : List ℕ) → outcome result s ≡ private_width shape vcpu.0 s }
 {
     if absent(shape, vcpu, true) {
-        Answer::Refused(Refusal::Vcpu)
+        Err(Refusal::Vcpu)
     } else {
-        Answer::Refused(Refusal::Width)
+        Err(Refusal::Width)
     }
 }
 
@@ -34,11 +33,12 @@ fn read_at(words: &[u32], shape: Shape, vcpu: GicVcpuId, place: Place, width: Ac
     ensures { outcome result words.now ≡ read_distributor_at shape vcpu.0 «place» width words.now }
 {
     if absent(shape, vcpu, read_looks_up(place)) {
-        return Answer::Refused(Refusal::Vcpu);
+        return Err(Refusal::Vcpu);
     }
     gave(read_place(words, shape, vcpu, place, width))
 }
 
+#[tactic(auto, unfolding(crate::specs::DistributorFrame::read_v2_distributor))]
 pub fn read_v2_distributor(
     words: &[u32],
     vcpu: GicVcpuId,
@@ -47,11 +47,9 @@ pub fn read_v2_distributor(
 ) -> Answer
     ensures { ReadDistributorPromise vcpu.0 offset width words.now result words.now }
 {
-    let Lent::Sound(shape) = validate_state(words) else {
-        return Answer::Refused(Refusal::BrokenState);
-    };
+    let shape = validate_state(words).ok_or(Refusal::BrokenState)?;
     match locate_distributor(offset, width) {
-        DistributorAccess::Refused(refusal) => Answer::Refused(refusal),
+        DistributorAccess::Refused(refusal) => Err(refusal),
         DistributorAccess::PrivateWidth => private_width(shape, vcpu),
         DistributorAccess::At(place) => read_at(words, shape, vcpu, place, width),
     }
@@ -69,13 +67,14 @@ fn write_at(
     ensures { outcome result words.new ≡ write_distributor_at shape vcpu.0 «place» width value words.old }
 {
     if absent(shape, vcpu, write_looks_up(place, value)) {
-        return Answer::Refused(Refusal::Vcpu);
+        return Err(Refusal::Vcpu);
     }
     let quiet = quiet_vcpus(words, shape);
     write_place(words, shape, vcpu, place, width, value);
     done(words, shape, quiet, IntId::SPURIOUS)
 }
 
+#[tactic(auto, unfolding(crate::specs::DistributorFrame::write_v2_distributor))]
 pub fn write_v2_distributor(
     words: &mut [u32],
     vcpu: GicVcpuId,
@@ -85,21 +84,12 @@ pub fn write_v2_distributor(
 ) -> Answer
     ensures { WriteDistributorPromise vcpu.0 offset width value words.old result words.new }
 {
-    let Lent::Sound(shape) = validate_state(words) else {
-        return Answer::Refused(Refusal::BrokenState);
-    };
+    let shape = validate_state(words).ok_or(Refusal::BrokenState)?;
     match locate_distributor(offset, width) {
-        DistributorAccess::Refused(refusal) => Answer::Refused(refusal),
+        DistributorAccess::Refused(refusal) => Err(refusal),
         DistributorAccess::PrivateWidth => private_width(shape, vcpu),
         DistributorAccess::At(place) => {
-            write_at(
-                words,
-                shape,
-                vcpu,
-                place,
-                width,
-                (value % REGISTER_VALUES) as u32,
-            )
+            write_at(words, shape, vcpu, place, width, register_value(value))
         }
     }
 }

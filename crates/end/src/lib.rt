@@ -6,31 +6,27 @@ ghost use Rattle.state.specs.Layout.{Room};
 ghost use Rattle.service.specs.Service.{Served};
 ghost use Rattle.end.specs.End.{owned_by, served_here, retire, deactivated, retired, dir_state, dir_retired, eoi_mode, ended, end_retired, eoi_state, eoi_retired, decoded_eoi, Ending};
 
-use interrupt::{DecodedIntId, GicVcpuId, IntId, InterruptRecord, Owner};
+use interrupt::{GicVcpuId, IntId, InterruptRecord};
 use service::drop_v2_priority;
 use state::words::{interface_value, put_record, record};
 use state::{InterfaceValue, Shape};
 
-pub fn decode_eoi_intid(value: u32) -> DecodedIntId
+pub fn decode_eoi_intid(value: u32) -> Option<IntId>
     ensures { result ≡ decoded_eoi value }
 {
     IntId::new(value % 1024)
 }
 
-fn owned_by(owner: Owner, vcpu: GicVcpuId) -> bool
+fn owned_by(owner: Option<GicVcpuId>, vcpu: GicVcpuId) -> bool
     ensures { result ≡ owned_by vcpu.0 owner }
 {
-    match owner {
-        Owner::Nobody => false,
-        Owner::Vcpu(id) => id.0 == vcpu.0,
-    }
+    owner == Some(vcpu)
 }
 
 fn served_here(record: InterruptRecord, vcpu: GicVcpuId) -> bool
     ensures { result ≡ served_here vcpu.0 «record» }
 {
-    let owner = record.owner;
-    record.inflight & owned_by(owner, vcpu)
+    record.inflight & owned_by(record.owner, vcpu)
 }
 
 #[tactic(auto, unfolding(crate::specs::End::retire))]
@@ -38,7 +34,7 @@ fn retire(mut record: InterruptRecord) -> InterruptRecord
     ensures { result ≡ retire «record» }
 {
     record = record.deactivate_inflight(record.pending);
-    record.set_owner(Owner::Nobody)
+    record.set_owner(None)
 }
 
 // The number that is retired, if one is.
@@ -63,11 +59,12 @@ fn deactivate_interrupt(words: &mut [u32], shape: Shape, vcpu: GicVcpuId, intid:
     IntId::SPURIOUS
 }
 
+// Taken apart by let else, here and in `eoi_v2`, as document 01 asks.
 pub fn dir_v2(words: &mut [u32], shape: Shape, vcpu: GicVcpuId, value: u32) -> IntId
     requires { Ending shape vcpu.0 (decoded_eoi value) words.old }
     ensures { (result.0 ≡ dir_retired shape vcpu.0 (decoded_eoi value) words.old) × (words.new ≡ dir_state shape vcpu.0 (decoded_eoi value) words.old) }
 {
-    let DecodedIntId::Valid(intid) = decode_eoi_intid(value) else {
+    let Some(intid) = decode_eoi_intid(value) else {
         return IntId::SPURIOUS;
     };
     deactivate_interrupt(words, shape, vcpu, intid)
@@ -98,7 +95,7 @@ pub fn eoi_v2(words: &mut [u32], shape: Shape, vcpu: GicVcpuId, value: u32) -> I
     requires { Ending shape vcpu.0 (decoded_eoi value) words.old }
     ensures { (result.0 ≡ eoi_retired shape vcpu.0 (decoded_eoi value) words.old) × (words.new ≡ eoi_state shape vcpu.0 (decoded_eoi value) words.old) }
 {
-    let DecodedIntId::Valid(intid) = decode_eoi_intid(value) else {
+    let Some(intid) = decode_eoi_intid(value) else {
         return IntId::SPURIOUS;
     };
     end_interrupt(words, shape, vcpu, intid)

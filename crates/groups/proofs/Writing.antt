@@ -7,7 +7,8 @@ use native.Mathlib.Nat.{add-zero}
 use native.Mathlib.Omega.{arith}
 use lib.ListN.{length, take, drop, set, length-append}
 use lib.Seq.{sets, length-sets, sets-eq, drop-set-lt, take-append_seam}
-use Rattle.groups.specs.Groups.{Wrote}
+use Rattle.groups.specs.declared.Writer.{Writer}
+use Rattle.groups.specs.Groups.{Wrote, WroteBy}
 
 sets_append : (x y s : List ℕ) (i : ℕ) → sets (sets s i x) (i + length x) y ≡ sets s i (x ++ y)
 sets_append [] y s i = rw add-zero
@@ -58,3 +59,6 @@ wrote_rest {w} {x} {s} {s'} {at} {end} p = ap (drop end) p.bytes ∙ go w
 
 pub wrote_one : (w : Bool) (b : ℕ) (s : List ℕ) (at : ℕ) → (w ≡ true → at < length s) → Wrote w (b ∷ []) at s (cond w (set s at b) s) (at + 1)
 wrote_one w b s at h = record { fits = λ e. let room = h e in omega arith; bytes = refl; past = refl }
+
+pub puts_then : {b : Bool} {x y : List ℕ} {w w' w'' : Writer} → WroteBy b x w w' → WroteBy b y w' w'' → WroteBy b (x ++ y) w w''
+puts_then p q = record { wrote = wrote_then p.wrote q.wrote; same_reference = q.same_reference ∙ p.same_reference }

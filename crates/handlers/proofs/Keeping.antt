@@ -1,5 +1,6 @@
 -- What keeps an entry of a vCPU's stack and the vCPU's binary point from growing: every call but a start that is accepted, a write that raises the
 -- vCPU's BPR, and the EOIR that pops the entry. Assumes nothing.
+use Rattle.std.specs.Prelude.{Option, Some, None, Ok}
 use mathlib.Core.Path.{◌≡◌, refl, sym, ap, subst, ◌∙◌}
 use mathlib.Core.Bool.{Bool, true, false, cond, ◌&&◌, ◌||◌, true≢false}
 use mathlib.Core.List.{List}
@@ -10,10 +11,7 @@ use lib.Dec.{eqb, ltb}
 use borrow.Author.Tests.{eq-eqb, eqb-true, ltb-true, ltb-false}
 use Rattle.interrupt.specs.Types.{decoded, is_valid}
 use Rattle.interrupt.specs.declared.types.IntId.{IntId}
-use Rattle.interrupt.specs.declared.types.DecodedIntId.{DecodedIntId}
-use Rattle.interrupt.specs.declared.types.DecodedIntId.TheVariants.{Valid, Reserved}
 use Rattle.register.specs.declared.frame.AccessWidth.{AccessWidth}
-use Rattle.register.specs.declared.cpu_interface.CpuInterfaceAccess.TheVariants as interface
 use Rattle.register.specs.declared.ranges.ByteRegister.{ByteRegister}
 use Rattle.register.specs.declared.ranges.ByteRegister.TheVariants.{Ipriorityr, Itargetsr, Cpendsgir, Spendsgir}
 use Rattle.register.specs.declared.ranges.Class.{Class}
@@ -162,16 +160,16 @@ module _ (shape : Shape) (v i : ℕ) (e : Entry) (b : ℕ) (exists : v < shape.c
       same p (rw (stay (Interface v Depth) exists (apart_record (Interface v Depth) u n refl)) p.deeper) (stay (Stack v i) (exists, inside) (apart_record (Stack v i) u n refl))
       (stay (Interface v BinaryPoint) exists (apart_record (Interface v BinaryPoint) u n refl))
 
-is_number : DecodedIntId → Type 0
-is_number Reserved = ⊥
-is_number (Valid k) = Unit
+is_number : Option IntId → Type 0
+is_number None = ⊥
+is_number (Some k) = Unit
 
 -- what decodes is the number itself
-decoded_number : (x : ℕ) (k : IntId) → decoded x ≡ Valid k → x ≡ k.0
+decoded_number : (x : ℕ) (k : IntId) → decoded x ≡ Some k → x ≡ k.0
 unfolding decoded is_number
 decoded_number x k = go (ltb x 1020)
   where
-    go : (q : Bool) → cond q (Valid (record { 0 = x })) Reserved ≡ Valid k → x ≡ k.0
+    go : (q : Bool) → cond q (Some (record { 0 = x })) None ≡ Some k → x ≡ k.0
     go true e = cc
     go false e = absurd (subst is_number (sym e) tt)
 
@@ -228,13 +226,13 @@ module _ (h : Handler) (e : Entry) (is : e.intid.0 ≡ h.interrupt) (exists : h.
               (λ some pop. deactivated_stands shape v i e b exists inside u n (popped shape u s) (popped_room shape u s lent some) there pop)
           go false w = rw (ended_unchanged shape u n s (served shape s sound u there) w) p
 
-      by_number : spared Ends → (number : DecodedIntId) → decoded_eoi value ≡ number → (is_valid number ≡ true → u < shape.count) → Holds (eoi_state shape u number s)
-      by_number z Reserved q there = p
-      by_number z (Valid k) q there = end_stands z k.0 (decoded_number (value % 1024) k q) (there refl)
+      by_number : spared Ends → (number : Option IntId) → decoded_eoi value ≡ number → (is_valid number ≡ true → u < shape.count) → Holds (eoi_state shape u number s)
+      by_number z None q there = p
+      by_number z (Some k) q there = end_stands z k.0 (decoded_number (value % 1024) k q) (there refl)
 
-      by_dir : (number : DecodedIntId) → (is_valid number ≡ true → u < shape.count) → Holds (dir_state shape u number s)
-      by_dir Reserved there = p
-      by_dir (Valid k) there = deactivated_stands shape v i e b exists inside u k.0 s sound.state (there refl) p
+      by_dir : (number : Option IntId) → (is_valid number ≡ true → u < shape.count) → Holds (dir_state shape u number s)
+      by_dir None there = p
+      by_dir (Some k) there = deactivated_stands shape v i e b exists inside u k.0 s sound.state (there refl) p
 
       -- a value of u's interface: v's binary point, which is not raised, or another
       kept_stands : (k : InterfaceValue) → on_stack (Interface u k) ≡ false → u < shape.count → spared (Keeps k) → Holds (with_interface shape u k value s)
@@ -272,7 +270,7 @@ module _ (h : Handler) (e : Entry) (is : e.intid.0 ≡ h.interrupt) (exists : h.
     other_stands =
         each_call shape s (valid shape s controls) (λ c. Spared) (λ c d r may bar z. p) (λ c by x z. p) (λ c u register x no z. p)
         (λ c u register acknowledges looked full.
-        acknowledge_cases shape s controls u looked (Spared (Acts (ReadsRegister u (interface.At register)))) (λ z. p) (λ d o z. move_stands shape v i e b exists inside s sound p (Given u d) tt o))
+        acknowledge_cases shape s controls u looked (Spared (Acts (ReadsRegister u (Ok register)))) (λ z. p) (λ d o z. move_stands shape v i e b exists inside s sound p (Given u d) tt o))
         (λ c u register value looked z. by_rule u value (rule_of register).writes (off_depths u register) looked z)
         (λ c u place width value at z.
         chain_keeps Holds (λ m t made o here now. move_stands shape v i e b exists inside t (lawful_sound here.lawful) now m (class_leaves shape v u place.class place.first.0 width value m made) o)

@@ -1,10 +1,10 @@
 -- A write to BPR regroups nothing that is stored: every stack is as it was, and every running priority reads as it did. Assumes nothing.
+use Rattle.std.specs.Prelude.{Ok}
 use mathlib.Core.Path.{◌≡◌, refl, sym, ap, subst, ◌∙◌}
 use mathlib.Core.Bool.{true}
 use mathlib.Core.List.{List}
 use Prim.Native.Nat.{ℕ, ◌%◌, ◌^◌, ◌<◌}
 use Rattle.register.specs.declared.frame.AccessWidth.TheVariants.{Dword}
-use Rattle.register.specs.declared.cpu_interface.CpuInterfaceAccess.TheVariants as interface
 use Rattle.register.specs.declared.cpu_interface.CpuInterfaceRegister.TheVariants.{Bpr}
 use Rattle.register.specs.CpuInterface.{registers, register_in, register_at, locate_cpu_interface}
 use Rattle.state.specs.declared.layout.Shape.{Shape}
@@ -27,7 +27,7 @@ use Rattle.history.proofs.Each.{valid}
 use Rattle.handlers.proofs.Keeping.{point_apart}
 use Rattle.handlers.proofs.Shielded.{running_call}
 
-bpr_at : locate_cpu_interface 0x08 Dword ≡ interface.At Bpr
+bpr_at : locate_cpu_interface 0x08 Dword ≡ Ok Bpr
 unfolding locate_cpu_interface register_at register_in registers
 bpr_at = refl
 

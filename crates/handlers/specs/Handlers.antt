@@ -1,9 +1,7 @@
 -- The kernel's own story (document 02, Two: "Our guest kernel sets BPR to 2 and finds its handlers interrupted by neighbours of nearly equal
 -- priority"), as calls to a controller and what they answer.
-use Rattle.std.specs.Prelude.{◌≡◌, Bool, true, false, cond, ◌&&◌, ◌||◌, List, ℕ, ◌+◌, ◌*◌, ◌%◌, ◌≤◌, ◌<◌, eqb, ltb}
+use Rattle.std.specs.Prelude.{◌≡◌, Bool, true, false, cond, ◌&&◌, ◌||◌, List, ℕ, ◌+◌, ◌*◌, ◌%◌, ◌≤◌, ◌<◌, eqb, ltb, Result, Ok, Err}
 use Rattle.register.specs.declared.frame.AccessWidth.TheVariants.{Dword}
-use Rattle.register.specs.declared.cpu_interface.CpuInterfaceAccess.{CpuInterfaceAccess}
-use Rattle.register.specs.declared.cpu_interface.CpuInterfaceAccess.TheVariants.{Refused, At}
 use Rattle.state.specs.declared.layout.Shape.{Shape}
 use Rattle.state.specs.declared.layout.InterfaceValue.TheVariants.{BinaryPoint}
 use Rattle.state.specs.Layout.{interface_number}
@@ -17,6 +15,8 @@ use Rattle.lawful.specs.Lawful.{Controls}
 use Rattle.history.specs.History.{Call, ReadCpuInterface, Looks, ReadsRegister, WritesRegister, WritesPlace, Signals, Deed, Starts, Acts, deed, called, run, rpr_read}
 use Rattle.waiting.specs.Waiting.{never}
 use Rattle.stories.specs.Stories.{NoneAhead}
+use Rattle.register.specs.declared.cpu_interface.CpuInterfaceRegister.{CpuInterfaceRegister}
+use Rattle.register.specs.declared.frame.Refusal.{Refusal}
 
 -- an acknowledge: a read of IAR, or by its other name of AIAR
 abbrev pub acknowledge_read : Bool → ℕ → Call
@@ -75,9 +75,9 @@ is_its_end h (Keeps k) value s = false
 is_its_end h Ends value s = eqb (value % 1024) h.interrupt && is_innermost h s
 is_its_end h Deactivates value s = false
 
-abbrev pub writes_there : Handler → CpuInterfaceAccess → ℕ → List ℕ → Bool
-writes_there h (Refused r) value s = false
-writes_there h (At register) value s = raises_point h (rule_of register).writes value || is_its_end h (rule_of register).writes value s
+abbrev pub writes_there : Handler → Result CpuInterfaceRegister Refusal → ℕ → List ℕ → Bool
+writes_there h (Err r) value s = false
+writes_there h (Ok register) value s = raises_point h (rule_of register).writes value || is_its_end h (rule_of register).writes value s
 
 -- what the story ends with: all starts anew, or the vCPU itself raises its BPR or writes the handler's EOIR
 abbrev pub ends_story : Handler → List ℕ → Deed → Outcome → Bool

@@ -1,6 +1,7 @@
 -- Demand 3: "Take a fresh controller and any sequence of calls, refused ones included, each acting as demand 2 defines it", by request One
 -- "from a fresh or loaded controller". What is here is about the words that the calls leave, for every count and limit that setup accepts and
 -- every image that a load accepts, whatever the lent words held before. Assumes nothing.
+use Rattle.std.specs.Prelude.{Option, Some, None}
 use mathlib.Core.Path.{◌≡◌, refl, sym, ap, subst, ◌∙◌}
 use mathlib.Core.Bool.{Bool, true, false, not, cond, true≢false}
 use mathlib.Core.List.{List, [], ◌∷◌}
@@ -14,8 +15,6 @@ use Rattle.register.specs.declared.frame.Refusal.{Refusal}
 use Rattle.register.specs.declared.frame.Refusal.TheVariants as refusal
 use Rattle.register.specs.Frame.{refusal_number}
 use Rattle.state.specs.declared.layout.Shape.{Shape}
-use Rattle.state.specs.declared.lent.Limited.{Limited}
-use Rattle.state.specs.declared.lent.Limited.TheVariants.{Within, Outside}
 use Rattle.state.specs.Fresh.{fresh}
 use Rattle.state.specs.Layout.{size, stack_capacity}
 use Rattle.state.specs.Lent.{limited, shaped}
@@ -46,9 +45,9 @@ use Rattle.history.proofs.Each.{few, many, Refusable, some_refusal, start_or_act
 module _ (count limit : ℕ) (s : List ℕ) (P : Outcome → Type 0)
     (refuses : (r : Refusal) → Refusable (Setup count limit) (refusal_number r) → P (refused r s))
     (starts : Controls (shaped count limit) (fresh (shaped count limit) s) → P (gave 0 (fresh (shaped count limit) s))) where
-  fits : (l : Limited) → limited count limit ≡ l → P (setup_of l s)
-  fits Outside p = refuses refusal.Limits (record { ordinary = few (omega arith); of_call = refl })
-  fits (Within shape) p = subst (λ (k : Shape). P (setup_of (Within k) s)) (sym same) (go (leb (size own) (length s)) refl)
+  fits : (l : Option Shape) → limited count limit ≡ l → P (setup_of l s)
+  fits None p = refuses refusal.Limits (record { ordinary = few (omega arith); of_call = refl })
+  fits (Some shape) p = subst (λ (k : Shape). P (setup_of (Some k) s)) (sym same) (go (leb (size own) (length s)) refl)
     where
       own : Shape
       own = shaped count limit

@@ -1,5 +1,6 @@
 -- Every call but setup and load, to any words that pass the test of refusal 6, is a chain of moves, each one that the call makes; a refused call
 -- is the chain of none. Assumes nothing.
+use Rattle.std.specs.Prelude.{Some}
 use mathlib.Core.Path.{◌≡◌, refl, sym, ◌∙◌}
 use mathlib.Core.Bool.{Bool, true, false, cond, ◌&&◌}
 use mathlib.Core.List.{List}
@@ -9,7 +10,6 @@ use lib.Dec.{ltb}
 use borrow.Author.Tests.{ltb-true}
 use Rattle.register.specs.declared.cpu_interface.CpuInterfaceRegister.{CpuInterfaceRegister}
 use Rattle.state.specs.declared.layout.Shape.{Shape}
-use Rattle.state.specs.declared.lent.Lent.TheVariants as lent
 use Rattle.state.specs.Lent.{shaped, validated}
 use Rattle.state.specs.Layout.{Count, Limit}
 use Rattle.state.specs.Words.{RecordThere, record_at, changed, enabled_at}
@@ -54,7 +54,7 @@ deactivated_chain shape v n r exists = go (ltb n shape.limit && served_here v (r
         if_chain (ltb n shape.limit && only_active (record_at shape v n r))
         (λ q. one (Changed v n moves.Complete) (refl, tt) (record { there = there (only_active (record_at shape v n r)) q; fits = right_true (ltb n shape.limit) (only_active (record_at shape v n r)) q }))
 
-module _ (shape : Shape) (s : List ℕ) (h : validated s ≡ lent.Sound shape) where
+module _ (shape : Shape) (s : List ℕ) (h : validated s ≡ Some shape) where
   sound : service.Sound shape s
   sound = validated_sound shape s h
 
@@ -91,7 +91,7 @@ module _ (shape : Shape) (s : List ℕ) (h : validated s ≡ lent.Sound shape) w
       (λ c v n signal there past. signal_chain v n there past signal)
 
   -- and the words stay a state of this count and limit
-  pub call_valid : (c : Call) → is_start c ≡ false → validated (called c s).state ≡ lent.Sound shape
+  pub call_valid : (c : Call) → is_start c ≡ false → validated (called c s).state ≡ Some shape
   call_valid c e =
       let chain = call_chain c e in
       let after = chain_sound chain sound in

@@ -1,9 +1,9 @@
 -- Every call but setup and load, to any words that pass the test of refusal 6, case by case of what kind it is: what it is refused by, what it
 -- answers where nothing changes, and the four ways in which it changes something. What holds in each case holds of every call. Assumes nothing.
+use Rattle.std.specs.Prelude.{Some, None, Result, Ok, Err, Option}
 use mathlib.Core.Path.{◌≡◌, refl, sym, ap, subst, ◌∙◌}
 use mathlib.Core.Bool.{Bool, true, false, not, cond, ◌&&◌, true≢false}
 use mathlib.Core.List.{List, [], ◌∷◌, ◌++◌}
-use mathlib.Core.Option.{Option, none, some}
 use Prim.Native.Nat.{ℕ, ◌%◌, ◌^◌, ◌≤◌, ◌<◌}
 use native.Mathlib.Omega.{arith}
 use lib.Dec.{leb, ltb}
@@ -14,15 +14,11 @@ use Rattle.register.specs.declared.distributor.Place.{Place}
 use Rattle.register.specs.declared.cpu_interface.CpuInterfaceRegister.{CpuInterfaceRegister}
 use Rattle.register.specs.declared.distributor.DistributorAccess.{DistributorAccess}
 use Rattle.register.specs.declared.distributor.DistributorAccess.TheVariants as distributor
-use Rattle.register.specs.declared.cpu_interface.CpuInterfaceAccess.{CpuInterfaceAccess}
-use Rattle.register.specs.declared.cpu_interface.CpuInterfaceAccess.TheVariants as interface
 use Rattle.register.specs.declared.frame.Refusal.TheVariants as refusal
 use Rattle.register.specs.Distributor.{locate_distributor}
 use Rattle.register.specs.CpuInterface.{locate_cpu_interface, register_at}
 use Rattle.word.specs.Word.{bit_of, word_of}
 use Rattle.state.specs.declared.layout.Shape.{Shape}
-use Rattle.state.specs.declared.lent.Lent.{Lent}
-use Rattle.state.specs.declared.lent.Lent.TheVariants.{Sound, Broken}
 use Rattle.state.specs.Lent.{validated}
 use Rattle.state.specs.Words.{RecordThere, record_at, changed, enabled_at}
 use Rattle.state.proofs.Tests.{left_true, not_below}
@@ -43,15 +39,9 @@ use Rattle.cpu_interface_frame.specs.CpuInterfaceFrame as interface-frame
 use Rattle.cpu_interface_frame.specs.CpuInterfaceFrame.{read_v2_cpu_interface, write_v2_cpu_interface}
 use Rattle.input.specs.declared.Signal.{Signal}
 use Rattle.input.specs.declared.Signal.TheVariants.{Level, Edge}
-use Rattle.input.specs.declared.InputNumber.{InputNumber}
-use Rattle.input.specs.declared.InputNumber.TheVariants.{Device, Outside}
 use Rattle.input.specs.Input.{signalled, input_of, input_at, device_input}
 use Rattle.input.proofs.Passed.{input_there}
 use Rattle.message_frame.specs.declared.Window.{Window}
-use Rattle.message_frame.specs.declared.DecodedWindow.TheVariants as window
-use Rattle.message_frame.specs.declared.DecodedWindow.TheVariants.{Valid}
-use Rattle.message_frame.specs.declared.MessageAccess.{MessageAccess}
-use Rattle.message_frame.specs.declared.MessageAccess.TheVariants as message
 use Rattle.message_frame.specs.MessageFrame.{is_window, window_of, decoded_window, on_window, message_register_at, takes_width, locate_v2m, read_message, rings_spi, read_message_access, write_message_access, read_v2m, write_v2m}
 use Rattle.message_frame.proofs.Windows.{rung_spi}
 use Rattle.look.specs.Look.{line_level, irq_level, interrupt_word}
@@ -63,8 +53,9 @@ use Rattle.history.specs.Refusals.{refusals, listed}
 use Rattle.history.specs.History.{Ordinary, Call, Setup, ReadDistributor, WriteDistributor, ReadCpuInterface, WriteCpuInterface, SetLevel, Pulse, ReadV2m, WriteV2m, IrqLevel, InterruptWord, Save, Load, Looks, ReadsRegister, WritesRegister, WritesPlace, Signals, Deed, Starts, Acts, deed, starts_anew, is_start, called, message_action}
 use Rattle.register.specs.declared.frame.Refusal.{Refusal}
 use Rattle.register.specs.Frame.{refusal_number, is_dword, in_frame}
-use Rattle.state.specs.declared.lent.Limited.TheVariants.{Outside}
 use Rattle.places.proofs.Fits.{refused_access}
+use Rattle.message_frame.specs.declared.MessageRegister.{MessageRegister}
+use Rattle.interrupt.specs.declared.types.IntId.{IntId}
 
 pub few : {x : ℕ} → x ≤ 5 → Ordinary x
 few b = record { not_6 = λ e. absurd (omega (arith, b, e)); not_7 = λ e. absurd (omega (arith, b, e)) }
@@ -117,28 +108,28 @@ message_access {c} p r b = record {
 }
 
 -- what the CPU interface's map refuses it refuses by 1 or 2
-abbrev Passes : CpuInterfaceAccess → Type 0
-Passes (interface.Refused r) = refusal_number r ≤ 2
-Passes (interface.At register) = Unit
+abbrev Passes : Result CpuInterfaceRegister Refusal → Type 0
+Passes (Err r) = refusal_number r ≤ 2
+Passes (Ok register) = Unit
 
 interface_access : (offset : ℕ) (width : AccessWidth) → Passes (locate_cpu_interface offset width)
 unfolding locate_cpu_interface
 interface_access offset width = go (in_frame 0x2000 offset width) (is_dword width)
   where
-    go : (b c : Bool) → Passes (cond b (cond c (interface.At (register_at offset)) (interface.Refused refusal.Width)) (interface.Refused refusal.Access))
+    go : (b c : Bool) → Passes (cond b (cond c (Ok (register_at offset)) (Err refusal.Width)) (Err refusal.Access))
     go true true = tt
     go true false = omega arith
     go false c = omega arith
 
-abbrev MessagePasses : MessageAccess → Type 0
-MessagePasses (message.Refused r) = refusal_number r ≤ 2
-MessagePasses (message.At register) = Unit
+abbrev MessagePasses : Result MessageRegister Refusal → Type 0
+MessagePasses (Err r) = refusal_number r ≤ 2
+MessagePasses (Ok register) = Unit
 
 message_located : (offset : ℕ) (width : AccessWidth) → MessagePasses (locate_v2m offset width)
 unfolding locate_v2m
 message_located offset width = go (in_frame 0x1000 offset width) (takes_width (message_register_at offset) width)
   where
-    go : (b c : Bool) → MessagePasses (cond b (cond c (message.At (message_register_at offset)) (message.Refused refusal.Width)) (message.Refused refusal.Access))
+    go : (b c : Bool) → MessagePasses (cond b (cond c (Ok (message_register_at offset)) (Err refusal.Width)) (Err refusal.Access))
     go true true = tt
     go true false = omega arith
     go false c = omega arith
@@ -155,15 +146,15 @@ written_by_11 : (first count offset : ℕ) (width : AccessWidth) (value : ℕ) �
 written_by_11 first count offset width value = refl
 
 -- an input's number is that of the call, and no SGI's
-abbrev IsInput : Shape → ℕ → InputNumber → Type 0
-IsInput shape n (Device k) = (k.0 ≡ n) × (16 ≤ n)
-IsInput shape n Outside = n < shape.limit → 16 ≤ n → ⊥
+abbrev IsInput : Shape → ℕ → Option IntId → Type 0
+IsInput shape n (Some k) = (k.0 ≡ n) × (16 ≤ n)
+IsInput shape n None = n < shape.limit → 16 ≤ n → ⊥
 
 input_is : (shape : Shape) (n : ℕ) → IsInput shape n (input_of shape n)
 unfolding input_of
 input_is shape n = go (not (ltb n 16) && ltb n shape.limit) refl
   where
-    go : (b : Bool) → (not (ltb n 16) && ltb n shape.limit) ≡ b → IsInput shape n (cond b (Device (record { 0 = n })) Outside)
+    go : (b : Bool) → (not (ltb n 16) && ltb n shape.limit) ≡ b → IsInput shape n (cond b (Some (record { 0 = n })) None)
     go true e = (refl, not_below n 16 (left_true (not (ltb n 16)) (ltb n shape.limit) e))
     go false e = λ below past. absurd (true≢false (simp (le-ltb n 16 past, lt-ltb n shape.limit below) at e))
 
@@ -207,7 +198,7 @@ setup_load_or_other P setup load other (InterruptWord v n) = other (InterruptWor
 setup_load_or_other P setup load other (Save buffer) = other (Save buffer) refl
 setup_load_or_other P setup load other (Load bytes) = load bytes
 
-pub valid : (shape : Shape) (s : List ℕ) → Controls shape s → validated s ≡ Sound shape
+pub valid : (shape : Shape) (s : List ℕ) → Controls shape s → validated s ≡ Some shape
 valid shape s h = held_validated s shape h.lawful.in_range
 
 -- what a refused call asked for in vain, of the calls that could take something: it names a vCPU that there is not, or no device's number
@@ -227,23 +218,23 @@ signal_barred : {shape : Shape} (v n : ℕ) (signal : Signal) → (RecordThere s
 signal_barred v n (Level asserted) f = f
 signal_barred v n Edge f = tt
 
-message_barred : (shape : Shape) (w : Window) (a : MessageAccess) (n : ℕ) → Barred shape (Acts (message_action w a n))
-message_barred shape w (message.Refused r) n = tt
-message_barred shape w (message.At register) n = go (rings_spi w register n)
+message_barred : (shape : Shape) (w : Window) (a : Result MessageRegister Refusal) (n : ℕ) → Barred shape (Acts (message_action w a n))
+message_barred shape w (Err r) n = tt
+message_barred shape w (Ok register) n = go (rings_spi w register n)
   where
-    go : (b : Bool) → Barred shape (Acts (cond b (Signals 0 n Edge) (Looks none)))
+    go : (b : Bool) → Barred shape (Acts (cond b (Signals 0 n Edge) (Looks None)))
     go true = tt
     go false = tt
 
 -- what a call comes to, by its kind: `P` is of the call, its kind and what it comes to
-module _ (shape : Shape) (s : List ℕ) (h : validated s ≡ Sound shape) (P : Call → Deed → Outcome → Type 0)
+module _ (shape : Shape) (s : List ℕ) (h : validated s ≡ Some shape) (P : Call → Deed → Outcome → Type 0)
     (refuses : (c : Call) (d : Deed) (r : Refusal) → Refusable c (refusal_number r) → Barred shape d → P c d (refused r s))
     (looks : (c : Call) (by : Option ℕ) (x : ℕ) → P c (Acts (Looks by)) (gave x s))
-    (reads : (c : Call) (v : ℕ) (register : CpuInterfaceRegister) (x : ℕ) → interface-looks.acknowledging register ≡ false → P c (Acts (ReadsRegister v (interface.At register))) (gave x s))
+    (reads : (c : Call) (v : ℕ) (register : CpuInterfaceRegister) (x : ℕ) → interface-looks.acknowledging register ≡ false → P c (Acts (ReadsRegister v (Ok register))) (gave x s))
     (acknowledges : (c : Call) (v : ℕ) (register : CpuInterfaceRegister) → interface-looks.acknowledging register ≡ true → (enabled_at shape s ≡ true → v < shape.count)
-    → listed 7 (refusals c) ≡ true → P c (Acts (ReadsRegister v (interface.At register))) (interface-frame.read_answer (acknowledge shape v s) s (acknowledged shape v s)))
+    → listed 7 (refusals c) ≡ true → P c (Acts (ReadsRegister v (Ok register))) (interface-frame.read_answer (acknowledge shape v s) s (acknowledged shape v s)))
     (writes : (c : Call) (v : ℕ) (register : CpuInterfaceRegister) (value : ℕ) → (interface-looks.write_register_looks_up register value ≡ true → v < shape.count)
-    → P c (Acts (WritesRegister v (interface.At register) value))
+    → P c (Acts (WritesRegister v (Ok register) value))
     (went shape (interface-looks.write_retired shape v register value s) s (interface-looks.write_register shape v register value s)))
     (places-write : (c : Call) (v : ℕ) (place : Place) (width : AccessWidth) (value : ℕ) → places.PlaceWritten shape v place width value s
     → P c (Acts (WritesPlace v (distributor.At place) width value)) (went shape 1023 s (places.write_place shape v place width value s)))
@@ -265,33 +256,33 @@ module _ (shape : Shape) (s : List ℕ) (h : validated s ≡ Sound shape) (P : C
     private_width_lem : (d : Deed) (v : ℕ) → Barred shape d → P c d (distributor-frame.private_width shape v s)
     private_width_lem d v bar = looked c d (may refusal.Vcpu (omega arith)) true v (refused refusal.Width s) (λ p. bar) (λ e. refuses c d refusal.Width (may refusal.Width (omega arith)) bar)
 
-    interface_read : listed 7 (refusals c) ≡ true → (v : ℕ) (a : CpuInterfaceAccess) → Passes a → P c (Acts (ReadsRegister v a)) (interface-frame.read_interface_access shape v a s)
-    interface_read full v (interface.Refused r) p = refuses c (Acts (ReadsRegister v (interface.Refused r))) r (may r (omega (arith, p))) tt
-    interface_read full v (interface.At register) p =
-        each_read shape v s (λ k looks_up answer r. P c (Acts (ReadsRegister v (interface.At k))) (looked_up looks_up shape v s (interface-frame.read_answer answer s r)))
-        (λ k no looks_up x. looked c (Acts (ReadsRegister v (interface.At k))) vcpu looks_up v (gave x s) (λ q. tt) (λ e. reads c v k x no))
-        (λ k is. looked c (Acts (ReadsRegister v (interface.At k))) vcpu (enabled_at shape s) v (interface-frame.read_answer (acknowledge shape v s) s (acknowledged shape v s)) (λ q. tt)
+    interface_read : listed 7 (refusals c) ≡ true → (v : ℕ) (a : Result CpuInterfaceRegister Refusal) → Passes a → P c (Acts (ReadsRegister v a)) (interface-frame.read_interface_access shape v a s)
+    interface_read full v (Err r) p = refuses c (Acts (ReadsRegister v (Err r))) r (may r (omega (arith, p))) tt
+    interface_read full v (Ok register) p =
+        each_read shape v s (λ k looks_up answer r. P c (Acts (ReadsRegister v (Ok k))) (looked_up looks_up shape v s (interface-frame.read_answer answer s r)))
+        (λ k no looks_up x. looked c (Acts (ReadsRegister v (Ok k))) vcpu looks_up v (gave x s) (λ q. tt) (λ e. reads c v k x no))
+        (λ k is. looked c (Acts (ReadsRegister v (Ok k))) vcpu (enabled_at shape s) v (interface-frame.read_answer (acknowledge shape v s) s (acknowledged shape v s)) (λ q. tt)
         (λ e. acknowledges c v k is (present (enabled_at shape s) shape v e) full))
         register
       where
         vcpu : Refusable c 3
         vcpu = may refusal.Vcpu (omega arith)
 
-    interface_write : (v : ℕ) (a : CpuInterfaceAccess) (x : ℕ) → Passes a → P c (Acts (WritesRegister v a x)) (interface-frame.write_interface_access shape v a x s)
-    interface_write v (interface.Refused r) x p = refuses c (Acts (WritesRegister v (interface.Refused r) x)) r (may r (omega (arith, p))) tt
-    interface_write v (interface.At register) x p =
+    interface_write : (v : ℕ) (a : Result CpuInterfaceRegister Refusal) (x : ℕ) → Passes a → P c (Acts (WritesRegister v a x)) (interface-frame.write_interface_access shape v a x s)
+    interface_write v (Err r) x p = refuses c (Acts (WritesRegister v (Err r) x)) r (may r (omega (arith, p))) tt
+    interface_write v (Ok register) x p =
         let looks_up : Bool = interface-looks.write_register_looks_up register x in
-        looked c (Acts (WritesRegister v (interface.At register) x)) (may refusal.Vcpu (omega arith)) looks_up v
+        looked c (Acts (WritesRegister v (Ok register) x)) (may refusal.Vcpu (omega arith)) looks_up v
         (went shape (interface-looks.write_retired shape v register x s) s (interface-looks.write_register shape v register x s)) (λ q. tt)
         (λ e. writes c v register x (present looks_up shape v e))
 
     module _ (v offset : ℕ) (width : AccessWidth) where
-      distributor_read : (a : DistributorAccess) → locate_distributor offset width ≡ a → P c (Acts (Looks (some v))) (distributor-frame.read_distributor_access shape v a width s)
-      distributor_read (distributor.Refused r) p = refuses c (Acts (Looks (some v))) r (may r (omega (arith, refused_access offset width r p))) tt
-      distributor_read distributor.PrivateWidth p = private_width_lem (Acts (Looks (some v))) v tt
+      distributor_read : (a : DistributorAccess) → locate_distributor offset width ≡ a → P c (Acts (Looks (Some v))) (distributor-frame.read_distributor_access shape v a width s)
+      distributor_read (distributor.Refused r) p = refuses c (Acts (Looks (Some v))) r (may r (omega (arith, refused_access offset width r p))) tt
+      distributor_read distributor.PrivateWidth p = private_width_lem (Acts (Looks (Some v))) v tt
       distributor_read (distributor.At place) p =
           let x : ℕ = places.read_place shape v place width s in
-          looked c (Acts (Looks (some v))) (may refusal.Vcpu (omega arith)) (places.read_place_looks_up place.class place.private) v (gave x s) (λ q. tt) (λ e. looks c (some v) x)
+          looked c (Acts (Looks (Some v))) (may refusal.Vcpu (omega arith)) (places.read_place_looks_up place.class place.private) v (gave x s) (λ q. tt) (λ e. looks c (Some v) x)
 
       distributor_write : (a : DistributorAccess) (x : ℕ) → locate_distributor offset width ≡ a → P c (Acts (WritesPlace v a width x)) (distributor-frame.write_distributor_access shape v a width x s)
       distributor_write (distributor.Refused r) x p =
@@ -302,12 +293,12 @@ module _ (shape : Shape) (s : List ℕ) (h : validated s ≡ Sound shape) (P : C
           (went shape 1023 s (places.write_place shape v place width x s)) (λ q. (record { offset = offset; at = p }, q))
           (λ e. places-write c v place width x (place_written v sound (record { offset = offset; at = p }) e))
 
-  input : (c : Call) → listed 8 (refusals c) ≡ true → listed 3 (refusals c) ≡ true → (v n : ℕ) (signal : Signal) (a : InputNumber) → input_of shape n ≡ a → IsInput shape n a
+  input : (c : Call) → listed 8 (refusals c) ≡ true → listed 3 (refusals c) ≡ true → (v n : ℕ) (signal : Signal) (a : Option IntId) → input_of shape n ≡ a → IsInput shape n a
       → P c (Acts (Signals v n signal)) (input_at shape v signal a s)
-  input c by_8 by-3 v n signal Outside p is =
+  input c by_8 by-3 v n signal None p is =
       refuses c (Acts (Signals v n signal)) refusal.Input (record { ordinary = many (omega arith); of_call = by_8 })
       (signal_barred v n signal (λ there past. is there.numbered past))
-  input c by_8 by-3 v n signal (Device k) p is =
+  input c by_8 by-3 v n signal (Some k) p is =
       looked c (Acts (Signals v n signal)) (record { ordinary = few (omega arith); of_call = by-3 }) (ltb k.0 32) v (went shape 1023 s (changed shape v k.0 (signalled signal) s))
       (λ q. signal_barred v n signal (λ there past. q (λ low. there.banked (rw is.0 at (ltb-true k.0 32 low)))))
       (λ e. rw is.0 (signals c v n signal (subst (RecordThere shape v) is.0 (input_there shape v n k p e)) is.1))
@@ -318,34 +309,34 @@ module _ (shape : Shape) (s : List ℕ) (h : validated s ≡ Sound shape) (P : C
     unfolding decoded_window
     on_window_lem d bar f g = go (is_window shape first count) refl
       where
-        go : (b : Bool) → is_window shape first count ≡ b → P c d (on_window (cond b (Valid (window_of first count)) window.Outside) s f)
+        go : (b : Bool) → is_window shape first count ≡ b → P c d (on_window (cond b (Some (window_of first count)) None) s f)
         go true e = g e
         go false e = refuses c d refusal.Window (record { ordinary = many (omega arith); of_call = by-11 }) bar
 
-    message_read : (a : MessageAccess) → MessagePasses a → P c (Acts (Looks none)) (read_message_access (window_of first count) a s)
-    message_read (message.Refused r) p = refuses c (Acts (Looks none)) r (may r p) tt
-    message_read (message.At register) p = looks c none (read_message (window_of first count) register)
+    message_read : (a : Result MessageRegister Refusal) → MessagePasses a → P c (Acts (Looks None)) (read_message_access (window_of first count) a s)
+    message_read (Err r) p = refuses c (Acts (Looks None)) r (may r p) tt
+    message_read (Ok register) p = looks c None (read_message (window_of first count) register)
 
-    message_write : is_window shape first count ≡ true → (a : MessageAccess) (n : ℕ) → MessagePasses a
+    message_write : is_window shape first count ≡ true → (a : Result MessageRegister Refusal) (n : ℕ) → MessagePasses a
         → P c (Acts (message_action (window_of first count) a n)) (write_message_access shape (window_of first count) a n s)
-    message_write it (message.Refused r) n p = refuses c (Acts (Looks none)) r (may r p) tt
-    message_write it (message.At register) n p = go (rings_spi (window_of first count) register n) refl
+    message_write it (Err r) n p = refuses c (Acts (Looks None)) r (may r p) tt
+    message_write it (Ok register) n p = go (rings_spi (window_of first count) register n) refl
       where
         go : (b : Bool) → rings_spi (window_of first count) register n ≡ b
-            → P c (Acts (cond b (Signals 0 n Edge) (Looks none))) (went shape 1023 s (cond b (changed shape 0 n (signalled Edge) s) s))
+            → P c (Acts (cond b (Signals 0 n Edge) (Looks None))) (went shape 1023 s (cond b (changed shape 0 n (signalled Edge) s) s))
         go true e = let spi = rung_spi shape first count it register n e in signals c 0 n Edge (spi.there 0) (omega (arith, spi.from))
-        go false e = rw none_wakes_nobody (looks c none 0)
+        go false e = rw none_wakes_nobody (looks c None 0)
 
   -- a host's look
-  look : (c : Call) → listed 3 (refusals c) ≡ true → (v : ℕ) (looks_up : Bool) (x : ℕ) → P c (Acts (Looks none)) (looked_up looks_up shape v s (gave x s))
-  look c by-3 v looks_up x = looked c (Acts (Looks none)) (record { ordinary = few (omega arith); of_call = by-3 }) looks_up v (gave x s) (λ q. tt) (λ e. looks c none x)
+  look : (c : Call) → listed 3 (refusals c) ≡ true → (v : ℕ) (looks_up : Bool) (x : ℕ) → P c (Acts (Looks None)) (looked_up looks_up shape v s (gave x s))
+  look c by-3 v looks_up x = looked c (Acts (Looks None)) (record { ordinary = few (omega arith); of_call = by-3 }) looks_up v (gave x s) (λ q. tt) (λ e. looks c None x)
 
   -- a host's save
-  saved : (buffer : List ℕ) (b : Bool) → P (Save buffer) (Acts (Looks none)) (cond {A = Saved} b (into_buffer (image shape s) s buffer) (record { outcome = refused refusal.Unlawful s; buffer = buffer })).outcome
+  saved : (buffer : List ℕ) (b : Bool) → P (Save buffer) (Acts (Looks None)) (cond {A = Saved} b (into_buffer (image shape s) s buffer) (record { outcome = refused refusal.Unlawful s; buffer = buffer })).outcome
   saved buffer true =
-      into_cases (image shape s) s buffer (P (Save buffer) (Acts (Looks none))) (looks (Save buffer) none (length (image shape s)))
-      (refuses (Save buffer) (Acts (Looks none)) refusal.NoRoom (record { ordinary = many (omega arith); of_call = refl }) tt)
-  saved buffer false = refuses (Save buffer) (Acts (Looks none)) refusal.Unlawful (record { ordinary = many (omega arith); of_call = refl }) tt
+      into_cases (image shape s) s buffer (P (Save buffer) (Acts (Looks None))) (looks (Save buffer) None (length (image shape s)))
+      (refuses (Save buffer) (Acts (Looks None)) refusal.NoRoom (record { ordinary = many (omega arith); of_call = refl }) tt)
+  saved buffer false = refuses (Save buffer) (Acts (Looks None)) refusal.Unlawful (record { ordinary = many (omega arith); of_call = refl }) tt
 
   pub each_call : (c : Call) → is_start c ≡ false → P c (deed c) (called c s)
   unfolding read_v2_distributor write_v2_distributor read_v2_cpu_interface write_v2_cpu_interface device_input read_v2m write_v2m irq_level interrupt_word save
@@ -361,7 +352,7 @@ module _ (shape : Shape) (s : List ℕ) (h : validated s ≡ Sound shape) (P : C
   each_call (ReadV2m first count offset width) e =
       let c : Call = ReadV2m first count offset width in
       let by-11 = read_by_11 first count offset width in
-      rw h (on_window_lem c by-11 (message_access refl) first count (Acts (Looks none)) tt (λ w. read_message_access w (locate_v2m offset width) s)
+      rw h (on_window_lem c by-11 (message_access refl) first count (Acts (Looks None)) tt (λ w. read_message_access w (locate_v2m offset width) s)
       (λ it. message_read c by-11 (message_access refl) first count (locate_v2m offset width) (message_located offset width)))
   each_call (WriteV2m first count offset width value) e =
       let c : Call = WriteV2m first count offset width value in
@@ -373,14 +364,14 @@ module _ (shape : Shape) (s : List ℕ) (h : validated s ≡ Sound shape) (P : C
   each_call (IrqLevel v) e = rw h (look (IrqLevel v) refl v true (bit_of (line_level shape v s)))
   each_call (InterruptWord v n) e = rw h (at_number (ltb n shape.limit))
     where
-      at_number : (b : Bool) → P (InterruptWord v n) (Acts (Looks none)) (cond b (looked_up (ltb n 32) shape v s (gave (word_of (record_at shape v n s)) s)) (gave 0 s))
+      at_number : (b : Bool) → P (InterruptWord v n) (Acts (Looks None)) (cond b (looked_up (ltb n 32) shape v s (gave (word_of (record_at shape v n s)) s)) (gave 0 s))
       at_number true = look (InterruptWord v n) refl v (ltb n 32) (word_of (record_at shape v n s))
-      at_number false = looks (InterruptWord v n) none 0
-  each_call (Save buffer) e = subst (λ (l : Lent). P (Save buffer) (Acts (Looks none)) (saved_from l s buffer).outcome) (sym h) (saved buffer (is_lawful shape s))
+      at_number false = looks (InterruptWord v n) None 0
+  each_call (Save buffer) e = subst (λ (l : Option Shape). P (Save buffer) (Acts (Looks None)) (saved_from l s buffer).outcome) (sym h) (saved buffer (is_lawful shape s))
   each_call (Load bytes) e = absurd (true≢false e)
 
 -- words that are no state are refused by 6
-pub broken_call : (c : Call) → is_start c ≡ false → (s : List ℕ) → validated s ≡ Broken → (called c s ≡ refused refusal.BrokenState s) × (listed 6 (refusals c) ≡ true)
+pub broken_call : (c : Call) → is_start c ≡ false → (s : List ℕ) → validated s ≡ None → (called c s ≡ refused refusal.BrokenState s) × (listed 6 (refusals c) ≡ true)
 unfolding read_v2_distributor write_v2_distributor read_v2_cpu_interface write_v2_cpu_interface device_input read_v2m write_v2m irq_level interrupt_word save
 broken_call (Setup count limit) e s p = absurd (true≢false e)
 broken_call (ReadDistributor v offset width) e s p = (rw p refl, refl)
@@ -393,14 +384,14 @@ broken_call (ReadV2m first count offset width) e s p = (rw p refl, refl)
 broken_call (WriteV2m first count offset width value) e s p = (rw p refl, refl)
 broken_call (IrqLevel v) e s p = (rw p refl, refl)
 broken_call (InterruptWord v n) e s p = (rw p refl, refl)
-broken_call (Save buffer) e s p = (ap (λ (l : Lent). (saved_from l s buffer).outcome) p, refl)
+broken_call (Save buffer) e s p = (ap (λ (l : Option Shape). (saved_from l s buffer).outcome) p, refl)
 broken_call (Load bytes) e s p = absurd (true≢false e)
 
 -- to any words at all
 pub any_words : (s : List ℕ) (P : Call → Outcome → Type 0) → ((c : Call) → listed 6 (refusals c) ≡ true → P c (refused refusal.BrokenState s))
-    → ((shape : Shape) → validated s ≡ Sound shape → (c : Call) → is_start c ≡ false → P c (called c s)) → (c : Call) → is_start c ≡ false → P c (called c s)
+    → ((shape : Shape) → validated s ≡ Some shape → (c : Call) → is_start c ≡ false → P c (called c s)) → (c : Call) → is_start c ≡ false → P c (called c s)
 any_words s P breaks holds c e = go (validated s) refl
   where
-    go : (l : Lent) → validated s ≡ l → P c (called c s)
-    go Broken p = let by_6 = broken_call c e s p in subst (P c) (sym by_6.0) (breaks c by_6.1)
-    go (Sound shape) p = holds shape p c e
+    go : (l : Option Shape) → validated s ≡ l → P c (called c s)
+    go None p = let by_6 = broken_call c e s p in subst (P c) (sym by_6.0) (breaks c by_6.1)
+    go (Some shape) p = holds shape p c e

@@ -1,11 +1,11 @@
 -- What a call can touch: of another vCPU nothing, save the SGIs that a write to SGIR sends; by a device's input or message one record; by a read nothing,
 -- save what an acknowledge gives. In any words that pass the test of refusal 6; what is refused changes nothing (`every_refusal`). Assumes
 -- nothing.
+use Rattle.std.specs.Prelude.{Some, Result, Ok, Err, None}
 use mathlib.Core.Path.{◌≡◌, refl, sym, ap, subst, ◌∙◌}
 use mathlib.Core.Bool.{Bool, true, false, not, cond, ◌&&◌, or-true, true≢false, false≢true}
 use mathlib.Core.List.{List}
 use mathlib.Core.Logic.{◌⊎◌, inl, inr}
-use mathlib.Core.Option.{none}
 use Prim.Native.Nat.{ℕ, ◌+◌, ◌*◌, ◌%◌, ◌^◌, ◌<◌}
 use native.Mathlib.Omega.{arith}
 use lib.Dec.{eqb, ltb}
@@ -18,12 +18,9 @@ use Rattle.register.specs.declared.ranges.Class.{Class}
 use Rattle.register.specs.declared.ranges.Class.TheVariants.{Ctlr, Typer, Iidr, Sgir, Bits, Bytes, Other}
 use Rattle.register.specs.declared.distributor.DistributorAccess.{DistributorAccess}
 use Rattle.register.specs.declared.distributor.DistributorAccess.TheVariants as distributor
-use Rattle.register.specs.declared.cpu_interface.CpuInterfaceAccess.{CpuInterfaceAccess}
-use Rattle.register.specs.declared.cpu_interface.CpuInterfaceAccess.TheVariants as interface
 use Rattle.register.specs.Ranges.{class_number}
 use Rattle.word.specs.Fields.{field_at}
 use Rattle.state.specs.declared.layout.Shape.{Shape}
-use Rattle.state.specs.declared.lent.Lent.TheVariants.{Sound}
 use Rattle.state.specs.Layout.{Slot, Sources, Private, Spi, Exists}
 use Rattle.state.specs.Lent.{validated}
 use Rattle.state.specs.Words.{word_at, record_slot}
@@ -37,8 +34,6 @@ use Rattle.answer.specs.Answer.{Outcome, refused, gave}
 use Rattle.input.specs.declared.Signal.{Signal}
 use Rattle.input.specs.declared.Signal.TheVariants.{Level, Edge}
 use Rattle.message_frame.specs.declared.Window.{Window}
-use Rattle.message_frame.specs.declared.MessageAccess.{MessageAccess}
-use Rattle.message_frame.specs.declared.MessageAccess.TheVariants as message
 use Rattle.message_frame.specs.MessageFrame.{window_of, rings_spi, locate_v2m}
 use Rattle.moves.specs.Moves.{Change, Move, Changed, Sourced, Kept, Switched, Given, Popped, moved, Giving}
 use Rattle.moves.proofs.Acknowledges.{each_acknowledge}
@@ -49,6 +44,9 @@ use Rattle.history.specs.Made.{byte_move, ClassMade, PlaceMade, ReadMade, WriteM
 use Rattle.history.specs.Touch.{Stays, belongs_to, acts_as, access_by, reads_only, is_read, sgir_sends, sgir_at, rings_by, rings_at, rung_slot, is_record_of, input_call, taken_with, given_slot, acknowledges_at, acknowledges_by, hands_out}
 use Rattle.history.proofs.Calls.{call_chain}
 use Rattle.history.proofs.Each.{is_act, each_call, any_words}
+use Rattle.register.specs.declared.cpu_interface.CpuInterfaceRegister.{CpuInterfaceRegister}
+use Rattle.register.specs.declared.frame.Refusal.{Refusal}
+use Rattle.message_frame.specs.declared.MessageRegister.{MessageRegister}
 
 -- a move at the vCPU u
 abbrev At : ℕ → Move → Type 0
@@ -173,7 +171,7 @@ given_slot_lem v n t (inl (inl p)) = simp (is_record_lem v n t p)
 given_slot_lem v n t (inl (inr p)) = simp (taken_slot v n t (inl p), or-true)
 given_slot_lem v n t (inr p) = simp (taken_slot v n t (inr p), or-true)
 
-module _ (shape : Shape) (s : List ℕ) (h : validated s ≡ Sound shape) where
+module _ (shape : Shape) (s : List ℕ) (h : validated s ≡ Some shape) where
   sound : service.Sound shape s
   sound = validated_sound shape s h
 
@@ -206,31 +204,31 @@ module _ (shape : Shape) (s : List ℕ) (h : validated s ≡ Sound shape) where
       window : Window
       window = window_of first count
 
-      spares : (m : Move) (a : MessageAccess) → ActionMade shape (message_action window a n) m → Touches m t → ⊥
-      spares m (message.Refused r) made p = made
-      spares m (message.At register) made p = go (rings_spi window register n) made
+      spares : (m : Move) (a : Result MessageRegister Refusal) → ActionMade shape (message_action window a n) m → Touches m t → ⊥
+      spares m (Err r) made p = made
+      spares m (Ok register) made p = go (rings_spi window register n) made
         where
-          go : (b : Bool) → ActionMade shape (cond b (Signals 0 n Edge) (Looks none)) m → ⊥
+          go : (b : Bool) → ActionMade shape (cond b (Signals 0 n Edge) (Looks None)) m → ⊥
           go true is = true≢false (sym (is_record_lem 0 n t (subst (λ (y : Move). Touches y t) is p)) ∙ free)
           go false is = is
 
 -- a read gives an interrupt, or it changes nothing
-module _ (shape : Shape) (s : List ℕ) (h : validated s ≡ Sound shape) (P : Deed → Outcome → Type 0)
+module _ (shape : Shape) (s : List ℕ) (h : validated s ≡ Some shape) (P : Deed → Outcome → Type 0)
     (same : (d : Deed) (o : Outcome) → o.state ≡ s → P d o)
-    (gives : (v : ℕ) (a : CpuInterfaceAccess) → acknowledges_at a ≡ true → (e : Candidate) → Giving shape v e s
+    (gives : (v : ℕ) (a : Result CpuInterfaceRegister Refusal) → acknowledges_at a ≡ true → (e : Candidate) → Giving shape v e s
     → P (Acts (ReadsRegister v a)) (gave (e.intid.0 + 1024 * source_of shape v e.intid.0 s) (moved shape (Given v e) s))) where
   each_read_call : (c : Call) → is_read c ≡ true → P (deed c) (called c s)
   each_read_call c reads =
       each_call shape s h (λ c d o. reads_only d ≡ true → P d o)
       (λ c d r may bar e. same d (refused r s) refl)
       (λ c by x e. same (Acts (Looks by)) (gave x s) refl)
-      (λ c v register x no e. same (Acts (ReadsRegister v (interface.At register))) (gave x s) refl)
+      (λ c v register x no e. same (Acts (ReadsRegister v (Ok register))) (gave x s) refl)
       (λ c v register is looked full e.
-      let d : Deed = Acts (ReadsRegister v (interface.At register)) in
+      let d : Deed = Acts (ReadsRegister v (Ok register)) in
       each_acknowledge shape s (validated_sound shape s h) v looked (λ a r. P d (read_answer a s r))
       (same d (gave 1023 s) refl)
       (λ b exists p no_room. same d (refused FullStack s) refl)
-      (gives v (interface.At register) is))
+      (gives v (Ok register) is))
       (λ c v register value looked e. absurd (false≢true e))
       (λ c v place width value at e. absurd (false≢true e))
       (λ c v n signal there past e. absurd (false≢true e))
@@ -248,7 +246,7 @@ module _ (shape : Shape) (s : List ℕ) (h : service.Sound shape s) (v : ℕ) (e
   answer_some = simp (ne_eqb answer 1023 (λ p. omega (arith, p, (givable shape s h v e o).numbered, h.state.limits.few_numbers)))
 
 -- A read by v, of whichever register, changes nothing but the record that it gives, of an SGI its source set at v, and v's stack and depth.
-module _ (shape : Shape) (s : List ℕ) (h : validated s ≡ Sound shape) where
+module _ (shape : Shape) (s : List ℕ) (h : validated s ≡ Some shape) where
   pub a_read_changes_only_what_it_gives : (c : Call) (v : ℕ) → is_read c ≡ true → access_by v c ≡ true → (t : Slot) → Exists shape t → given_slot v ((called c s).value % 1024) t ≡ false → Stays shape t c s
   a_read_changes_only_what_it_gives c v reads by t x free =
       each_read_call shape s h Spares (λ d o p by free. ap (word_at shape t) p) gives c reads by free
@@ -256,7 +254,7 @@ module _ (shape : Shape) (s : List ℕ) (h : validated s ≡ Sound shape) where
       Spares : Deed → Outcome → Type 0
       Spares d o = acts_as v d ≡ true → given_slot v (o.value % 1024) t ≡ false → word_at shape t o.state ≡ word_at shape t s
 
-      gives : (w : ℕ) (a : CpuInterfaceAccess) → acknowledges_at a ≡ true → (e : Candidate) → Giving shape w e s
+      gives : (w : ℕ) (a : Result CpuInterfaceRegister Refusal) → acknowledges_at a ≡ true → (e : Candidate) → Giving shape w e s
           → Spares (Acts (ReadsRegister w a)) (gave (e.intid.0 + 1024 * source_of shape w e.intid.0 s) (moved shape (Given w e) s))
       gives w a is e o by free =
           let lent = validated_sound shape s h in

@@ -1,11 +1,9 @@
 -- Calls one after another: document 01, "What the promises have to hold". A call is any public call with any arguments, refused or not, and
 -- acts as its promise says.
-use Rattle.std.specs.Prelude.{Bool, true, false, not, cond, ◌&&◌, ◌≡◌, List, [], ◌∷◌, ℕ, ◌%◌, ◌^◌}
-use Rattle.std.proofs.Math.Option.{Option, none, some}
+use Rattle.std.specs.Prelude.{Bool, true, false, not, cond, ◌&&◌, ◌≡◌, List, [], ◌∷◌, ℕ, ◌%◌, ◌^◌, Result, Ok, Err, Option, None, Some}
 use Rattle.register.specs.declared.frame.AccessWidth.{AccessWidth}
 use Rattle.register.specs.declared.frame.AccessWidth.TheVariants.{Dword}
 use Rattle.register.specs.declared.distributor.DistributorAccess.{DistributorAccess}
-use Rattle.register.specs.declared.cpu_interface.CpuInterfaceAccess.{CpuInterfaceAccess}
 use Rattle.register.specs.CpuInterface.{locate_cpu_interface}
 use Rattle.register.specs.Distributor.{locate_distributor}
 use Rattle.answer.specs.Answer.{Outcome}
@@ -16,12 +14,13 @@ use Rattle.input.specs.declared.Signal.{Signal}
 use Rattle.input.specs.declared.Signal.TheVariants.{Level, Edge}
 use Rattle.input.specs.Input.{device_level, device_pulse}
 use Rattle.message_frame.specs.declared.Window.{Window}
-use Rattle.message_frame.specs.declared.MessageAccess.{MessageAccess}
-use Rattle.message_frame.specs.declared.MessageAccess.TheVariants as message
 use Rattle.message_frame.specs.MessageFrame.{window_of, rings_spi, locate_v2m, read_v2m, write_v2m}
 use Rattle.look.specs.Look.{irq_level, interrupt_word}
 use Rattle.save.specs.Save.{save}
 use Rattle.load.specs.Load.{image_shape, load}
+use Rattle.message_frame.specs.declared.MessageRegister.{MessageRegister}
+use Rattle.register.specs.declared.frame.Refusal.{Refusal}
+use Rattle.register.specs.declared.cpu_interface.CpuInterfaceRegister.{CpuInterfaceRegister}
 
 -- count and limit; vCPU, offset, width and, to write, value; for inputs vCPU, number and, for a line, its level; at the message frame the
 -- window's first number and count, offset, width and, to write, value; a vCPU, and an interrupt's number, to look at; the bytes of a lent
@@ -78,9 +77,9 @@ pub data Action : Type 0 where
   -- looks and changes nothing, as a vCPU or as nobody;
   Looks : Option ℕ → Action
   -- reads a vCPU's CPU interface at this place;
-  ReadsRegister : ℕ → CpuInterfaceAccess → Action
+  ReadsRegister : ℕ → Result CpuInterfaceRegister Refusal → Action
   -- writes there, this value;
-  WritesRegister : ℕ → CpuInterfaceAccess → ℕ → Action
+  WritesRegister : ℕ → Result CpuInterfaceRegister Refusal → ℕ → Action
   -- writes the Distributor at this place, as a vCPU, by this width and value;
   WritesPlace : ℕ → DistributorAccess → AccessWidth → ℕ → Action
   -- signals this number, as a vCPU meets it;
@@ -92,24 +91,24 @@ pub data Deed : Type 0 where
   Acts : Action → Deed
 
 -- a message is a pulse of the number that it rings, which no vCPU meets otherwise than another; one that rings nobody changes nothing
-abbrev pub message_action : Window → MessageAccess → ℕ → Action
-message_action window (message.Refused r) n = Looks none
-message_action window (message.At register) n = cond (rings_spi window register n) (Signals 0 n Edge) (Looks none)
+abbrev pub message_action : Window → Result MessageRegister Refusal → ℕ → Action
+message_action window (Err r) n = Looks None
+message_action window (Ok register) n = cond (rings_spi window register n) (Signals 0 n Edge) (Looks None)
 
 -- "Bits of a written value above the access width are ignored"
 abbrev pub deed : Call → Deed
 deed (Setup count limit) = Starts count limit
-deed (ReadDistributor v offset width) = Acts (Looks (some v))
+deed (ReadDistributor v offset width) = Acts (Looks (Some v))
 deed (WriteDistributor v offset width value) = Acts (WritesPlace v (locate_distributor offset width) width (value % 2 ^ 32))
 deed (ReadCpuInterface v offset width) = Acts (ReadsRegister v (locate_cpu_interface offset width))
 deed (WriteCpuInterface v offset width value) = Acts (WritesRegister v (locate_cpu_interface offset width) (value % 2 ^ 32))
 deed (SetLevel v n asserted) = Acts (Signals v n (Level asserted))
 deed (Pulse v n) = Acts (Signals v n Edge)
-deed (ReadV2m first count offset width) = Acts (Looks none)
+deed (ReadV2m first count offset width) = Acts (Looks None)
 deed (WriteV2m first count offset width value) = Acts (message_action (window_of first count) (locate_v2m offset width) (value % 2 ^ 32))
-deed (IrqLevel v) = Acts (Looks none)
-deed (InterruptWord v n) = Acts (Looks none)
-deed (Save buffer) = Acts (Looks none)
+deed (IrqLevel v) = Acts (Looks None)
+deed (InterruptWord v n) = Acts (Looks None)
+deed (Save buffer) = Acts (Looks None)
 deed (Load bytes) = Starts (image_shape bytes).count (image_shape bytes).limit
 
 abbrev pub starts_anew : Deed → Bool

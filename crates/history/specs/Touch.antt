@@ -1,12 +1,9 @@
 -- What a call can touch, for whoever has several vCPUs and devices at one controller. A slot is a word of the state, by its name: document 01,
 -- "Distributor places" ("each vCPU has its own"; SGIR) and "CPU interface places" (IAR).
-use Rattle.std.specs.Prelude.{◌≡◌, Bool, true, false, not, ◌&&◌, ◌||◌, List, ℕ, ◌%◌, eqb}
-use Rattle.std.proofs.Math.Option.{none, some}
+use Rattle.std.specs.Prelude.{◌≡◌, Bool, true, false, not, ◌&&◌, ◌||◌, List, ℕ, ◌%◌, eqb, Result, Ok, Err, None, Some}
 use Rattle.register.specs.declared.ranges.Class.TheVariants.{Sgir}
 use Rattle.register.specs.declared.distributor.DistributorAccess.{DistributorAccess}
 use Rattle.register.specs.declared.distributor.DistributorAccess.TheVariants as distributor
-use Rattle.register.specs.declared.cpu_interface.CpuInterfaceAccess.{CpuInterfaceAccess}
-use Rattle.register.specs.declared.cpu_interface.CpuInterfaceAccess.TheVariants as interface
 use Rattle.register.specs.Ranges.{class_number}
 use Rattle.state.specs.declared.layout.Shape.{Shape}
 use Rattle.state.specs.Layout.{Slot, vcpu_of, number_of, is_record, is_sources, is_depth, is_entry, of_vcpu}
@@ -17,6 +14,8 @@ use Rattle.answer.specs.Answer.{Outcome}
 use Rattle.input.specs.declared.Signal.{Signal}
 use Rattle.input.specs.declared.Signal.TheVariants.{Level, Edge}
 use Rattle.history.specs.History.{Call, SetLevel, Pulse, Looks, ReadsRegister, WritesRegister, WritesPlace, Signals, Deed, Starts, Acts, deed, called}
+use Rattle.register.specs.declared.cpu_interface.CpuInterfaceRegister.{CpuInterfaceRegister}
+use Rattle.register.specs.declared.frame.Refusal.{Refusal}
 
 -- the call c to the words s leaves the word of the slot t
 abbrev pub Stays : Shape → Slot → Call → List ℕ → Type 0
@@ -29,8 +28,8 @@ belongs_to u t = of_vcpu (vcpu_of t) (λ v. eqb v u)
 -- an access by the vCPU v, to either frame
 abbrev pub acts_as : ℕ → Deed → Bool
 acts_as v (Starts count limit) = false
-acts_as v (Acts (Looks none)) = false
-acts_as v (Acts (Looks (some u))) = eqb u v
+acts_as v (Acts (Looks None)) = false
+acts_as v (Acts (Looks (Some u))) = eqb u v
 acts_as v (Acts (ReadsRegister u a)) = eqb u v
 acts_as v (Acts (WritesRegister u a value)) = eqb u v
 acts_as v (Acts (WritesPlace u a width value)) = eqb u v
@@ -98,9 +97,9 @@ abbrev pub given_slot : ℕ → ℕ → Slot → Bool
 given_slot v n t = is_record_of v n t || taken_with v n t
 
 -- a read of IAR or AIAR that gave a number: it was not refused, and did not answer 1023
-abbrev pub acknowledges_at : CpuInterfaceAccess → Bool
-acknowledges_at (interface.Refused r) = false
-acknowledges_at (interface.At register) = acknowledging register
+abbrev pub acknowledges_at : Result CpuInterfaceRegister Refusal → Bool
+acknowledges_at (Err r) = false
+acknowledges_at (Ok register) = acknowledging register
 
 abbrev pub acknowledges_by : Deed → Bool
 acknowledges_by (Starts count limit) = false

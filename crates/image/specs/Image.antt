@@ -1,14 +1,10 @@
 -- The image of a controller: document 02, request One ("It holds count, limit, Distributor CTLR, all interface values, stacks, private records
 -- with source bits, then SPI records, and ends there"). Which numbers these become is docs/IMAGE.md's, quoted here in its own order; how a
 -- number is written is `groups` (crates/groups).
-use Rattle.std.specs.Prelude.{cond, not, ◌≡◌, List, [], ◌∷◌, ◌++◌, ℕ, zero, suc, ◌+◌, ◌-◌, ◌*◌}
+use Rattle.std.specs.Prelude.{cond, not, ◌≡◌, List, [], ◌∷◌, ◌++◌, ℕ, zero, suc, ◌+◌, ◌-◌, ◌*◌, Option, Some, None}
 use Rattle.groups.specs.Groups.{spelled}
 use Rattle.interrupt.specs.Types.{is_sgi, is_level}
-use Rattle.interrupt.specs.declared.record.CpuTargetMask.{CpuTargetMask}
-use Rattle.interrupt.specs.declared.record.CpuTargetMask.TheVariants.{Unset, Mask}
 use Rattle.interrupt.specs.declared.record.InterruptRecord.{InterruptRecord}
-use Rattle.interrupt.specs.declared.record.Owner.{Owner}
-use Rattle.interrupt.specs.declared.record.Owner.TheVariants.{Nobody, Vcpu}
 use Rattle.word.specs.Word.{bit_of}
 use Rattle.state.specs.declared.layout.Shape.{Shape}
 use Rattle.state.specs.declared.layout.InterfaceValue.TheVariants.{Control, PriorityMask, BinaryPoint}
@@ -16,6 +12,7 @@ use Rattle.state.specs.declared.words.Entry.{Entry}
 use Rattle.state.specs.Words.{record_at, sources_at, interface_at, distributor_control_at, entry_at}
 use Rattle.service.specs.Service.{depth_at}
 use Rattle.lawful.specs.Lawful.{Lawful}
+use Rattle.interrupt.specs.declared.types.GicVcpuId.{GicVcpuId}
 
 -- f 0, then f 1, .. , then f (n - 1)
 unfoldable pub each : (ℕ → List ℕ) → ℕ → List ℕ
@@ -34,17 +31,17 @@ flags_number r =
     + 64 * bit_of (not (is_level r.trigger))
 
 -- "Owner: 0 nobody, v + 1 for vCPU v"
-abbrev pub owner_number : Owner → ℕ
-owner_number Nobody = 0
-owner_number (Vcpu v) = v.0 + 1
+abbrev pub owner_number : Option GicVcpuId → ℕ
+owner_number None = 0
+owner_number (Some v) = v.0 + 1
 
 -- "Mask: the byte as it is; 256 is the unset mark"
 abbrev pub unset_mark : ℕ
 unset_mark = 256
 
-abbrev pub mask_number : CpuTargetMask → ℕ
-mask_number Unset = unset_mark
-mask_number (Mask byte) = byte
+abbrev pub mask_number : Option ℕ → ℕ
+mask_number None = unset_mark
+mask_number (Some byte) = byte
 
 -- "interface CTLR (as the register reads: bits 0 and 9), PMR, BPR"
 abbrev pub interface_numbers : Shape → List ℕ → ℕ → List ℕ

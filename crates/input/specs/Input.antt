@@ -1,6 +1,6 @@
 -- Device inputs: document 01, "Port order" 1 ("Device input calls `set_level` and `pulse`") and "Refusal numbers": "Device input: 6, 8, 3"; the
 -- vCPU is not looked up for SPI inputs.
-use Rattle.std.specs.Prelude.{◌≡◌, Bool, not, cond, ◌&&◌, List, ℕ, ltb}
+use Rattle.std.specs.Prelude.{◌≡◌, Bool, not, cond, ◌&&◌, List, ℕ, ltb, Option, Some, None}
 use Rattle.interrupt.specs.declared.record.InterruptRecord.{InterruptRecord}
 use Rattle.interrupt.specs.Types.{is_sgi, is_private_id}
 use Rattle.interrupt.specs.Record as record_of
@@ -11,10 +11,8 @@ use Rattle.state.specs.Words.{RecordThere, changed}
 use Rattle.service.specs.Service.{Sound}
 use Rattle.input.specs.declared.Signal.{Signal}
 use Rattle.input.specs.declared.Signal.TheVariants.{Level, Edge}
-use Rattle.input.specs.declared.InputNumber.{InputNumber}
-use Rattle.input.specs.declared.InputNumber.TheVariants.{Device, Outside}
-use Rattle.answer.specs.declared.Answer.{Answer}
-use Rattle.answer.specs.Answer.{Outcome, outcome, refused, went, on_state, looked_up}
+use Rattle.answer.specs.Answer.{Answer, Outcome, outcome, refused, went, on_state, looked_up}
+use Rattle.interrupt.specs.declared.types.IntId.{IntId}
 
 abbrev pub signalled : Signal → InterruptRecord → InterruptRecord
 signalled (Level asserted) r = record_of.set_level r asserted
@@ -30,12 +28,12 @@ pub record Signalling (shape : Shape) (v n : ℕ) (s : List ℕ) : Type 0 where
   pub there : RecordThere shape v n
 
 -- 8: "the number is 0 to 15, or not below the limit"
-unfoldable pub input_of : Shape → ℕ → InputNumber
-input_of shape n = cond (not (is_sgi (record { 0 = n })) && ltb n shape.limit) (Device (record { 0 = n })) Outside
+unfoldable pub input_of : Shape → ℕ → Option IntId
+input_of shape n = cond (not (is_sgi (record { 0 = n })) && ltb n shape.limit) (Some (record { 0 = n })) None
 
-abbrev pub input_at : Shape → ℕ → Signal → InputNumber → List ℕ → Outcome
-input_at shape v signal Outside s = refused refusal.Input s
-input_at shape v signal (Device n) s = looked_up (is_private_id n) shape v s (went shape 1023 s (changed shape v n.0 (signalled signal) s))
+abbrev pub input_at : Shape → ℕ → Signal → Option IntId → List ℕ → Outcome
+input_at shape v signal None s = refused refusal.Input s
+input_at shape v signal (Some n) s = looked_up (is_private_id n) shape v s (went shape 1023 s (changed shape v n.0 (signalled signal) s))
 
 unfoldable pub device_input : Signal → ℕ → ℕ → List ℕ → Outcome
 device_input signal v n s = on_state (validated s) s (λ shape. input_at shape v signal (input_of shape n) s)

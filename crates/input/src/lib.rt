@@ -11,9 +11,9 @@ use answer::{Answer, absent, done};
 use interrupt::record::{after_level, after_pulse};
 use interrupt::{GicVcpuId, IntId, InterruptRecord};
 use register::Refusal;
+use state::Shape;
 use state::lent::validate_state;
 use state::words::{put_record, record};
-use state::{Lent, Shape};
 use targets::read_target;
 use wake::quiet_among;
 
@@ -22,13 +22,6 @@ use wake::quiet_among;
 pub enum Signal {
     Level(bool),
     Edge,
-}
-
-// A number that a device has, or none's: SGIs are no device's.
-#[derive(Clone, Copy)]
-pub enum InputNumber {
-    Device(IntId),
-    Outside,
 }
 
 fn signalled(record: InterruptRecord, signal: Signal) -> InterruptRecord
@@ -40,18 +33,16 @@ fn signalled(record: InterruptRecord, signal: Signal) -> InterruptRecord
     }
 }
 
-fn input_number(shape: Shape, number: u64) -> InputNumber
+// A number that a device has: SGIs are no device's.
+#[tactic(auto, unfolding(crate::specs::Input::input_of))]
+fn input_number(shape: Shape, number: u64) -> Option<IntId>
     ensures { result ≡ input_of shape number }
 {
     if shape.limit as u64 <= number {
-        return InputNumber::Outside;
+        return None;
     }
     let intid = IntId(number as u32);
-    if intid.is_sgi() {
-        InputNumber::Outside
-    } else {
-        InputNumber::Device(intid)
-    }
+    (!intid.is_sgi()).then_some(intid)
 }
 
 fn signal_record(words: &mut [u32], shape: Shape, vcpu: GicVcpuId, intid: IntId, signal: Signal)
@@ -83,21 +74,18 @@ fn input_at(words: &mut [u32], shape: Shape, vcpu: GicVcpuId, number: u64, signa
     requires { Sound shape words.old }
     ensures { outcome result words.new ≡ input_at shape vcpu.0 signal (input_of shape number) words.old }
 {
-    let InputNumber::Device(intid) = input_number(shape, number) else {
-        return Answer::Refused(Refusal::Input);
-    };
+    let intid = input_number(shape, number).ok_or(Refusal::Input)?;
     if absent(shape, vcpu, intid.is_private()) {
-        return Answer::Refused(Refusal::Vcpu);
+        return Err(Refusal::Vcpu);
     }
     signal_interrupt(words, shape, vcpu, intid, signal)
 }
 
+#[tactic(auto, unfolding(crate::specs::Input::device_input))]
 fn device_input(words: &mut [u32], vcpu: GicVcpuId, number: u64, signal: Signal) -> Answer
     ensures { outcome result words.new ≡ device_input signal vcpu.0 number words.old }
 {
-    let Lent::Sound(shape) = validate_state(words) else {
-        return Answer::Refused(Refusal::BrokenState);
-    };
+    let shape = validate_state(words).ok_or(Refusal::BrokenState)?;
     input_at(words, shape, vcpu, number, signal)
 }
 

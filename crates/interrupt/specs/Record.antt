@@ -3,7 +3,7 @@
 -- states mean is IHI 0048's "Interrupt handling state machine", and the registers that its comment names are IHI 0048's that reach it. A chain of
 -- `with..` (With.antt) is read from the inside: it says field by field what is new, and all else stays.
 -- Left out on purpose: the interrupt's number, which is the record's place in the lent state, and the affinity route.
-use Rattle.std.specs.Prelude.{Bool, true, false, not, cond, ◌&&◌, ◌||◌, ℕ}
+use Rattle.std.specs.Prelude.{Bool, true, false, not, cond, ◌&&◌, ◌||◌, ℕ, Option, Some, None}
 use Rattle.interrupt.specs.Types.{is_sgi, is_level, starting_trigger, pending_in, active_in}
 use Rattle.interrupt.specs.With.{with_enabled, with_pending, with_active, with_inflight, with_redelivery, with_line, with_priority, with_trigger, with_mask, with_owner}
 use Rattle.interrupt.specs.declared.types.IntId.{IntId}
@@ -11,11 +11,9 @@ use Rattle.interrupt.specs.declared.types.Priority.{Priority}
 use Rattle.interrupt.specs.declared.types.TriggerMode.{TriggerMode}
 use Rattle.interrupt.specs.declared.types.InterruptState.{InterruptState}
 use Rattle.interrupt.specs.declared.types.InterruptState.TheVariants.{Inactive, Pending, Active, ActivePending}
-use Rattle.interrupt.specs.declared.record.CpuTargetMask.TheVariants.{Unset, Mask}
-use Rattle.interrupt.specs.declared.record.Owner.{Owner}
-use Rattle.interrupt.specs.declared.record.Owner.TheVariants.{Nobody}
 use Rattle.interrupt.specs.declared.record.InterruptRecord.{InterruptRecord}
 use Rattle.interrupt.specs.declared.record.Synchronized.{Synchronized}
+use Rattle.interrupt.specs.declared.types.GicVcpuId.{GicVcpuId}
 
 -- `new`: only an SGI starts enabled; the priority is IHI's reset value; no target mask is set, and nobody serves it
 unfoldable pub new_record : IntId → TriggerMode → InterruptRecord
@@ -28,8 +26,8 @@ new_record n t = record {
   line_asserted = false;
   priority = record { 0 = 0 };
   trigger = t;
-  cpu_target_mask = Unset;
-  owner = Nobody;
+  cpu_target_mask = None;
+  owner = None;
 }
 
 -- what the interrupt n has after setup
@@ -114,10 +112,10 @@ set_trigger r t = with_trigger t r
 
 -- `set_cpu_target_mask` (GICD_ITARGETSRn)
 unfoldable pub set_cpu_target_mask : InterruptRecord → ℕ → InterruptRecord
-set_cpu_target_mask r m = with_mask (Mask m) r
+set_cpu_target_mask r m = with_mask (Some m) r
 
 -- who serves it, or nobody (in the Rust a delivery slot)
-unfoldable pub set_owner : InterruptRecord → Owner → InterruptRecord
+unfoldable pub set_owner : InterruptRecord → Option GicVcpuId → InterruptRecord
 set_owner r o = with_owner o r
 
 -- `set_level` (a device's line): an asserted line pends, and if it rises while the interrupt is served, that is noted; a line that falls takes back what a

@@ -1,23 +1,21 @@
 -- The numbers that stay apart, by document 01, "Numbers that stay apart", and IHI 0048, "Interrupt IDs": SGIs are 0 to 15, PPIs 16 to
 -- 31, SPIs from 32; 1020 to 1023 are no interrupts. An interrupt number, a vCPU number and a priority are declared in the source as
 -- three types of one number each. Left out on purpose: the limit of a controller, below which its SPIs lie; that is the state's to say.
-use Rattle.std.specs.Prelude.{Bool, true, false, cond, ℕ, ltb}
+use Rattle.std.specs.Prelude.{Bool, true, false, cond, ℕ, ltb, Option, Some, None}
 use Rattle.interrupt.specs.declared.types.IntId.{IntId}
 use Rattle.interrupt.specs.declared.types.Priority.{Priority}
-use Rattle.interrupt.specs.declared.types.DecodedIntId.{DecodedIntId}
-use Rattle.interrupt.specs.declared.types.DecodedIntId.TheVariants.{Valid, Reserved}
 use Rattle.interrupt.specs.declared.types.TriggerMode.{TriggerMode}
 use Rattle.interrupt.specs.declared.types.TriggerMode.TheVariants.{Level, Edge}
 use Rattle.interrupt.specs.declared.types.InterruptState.{InterruptState}
 use Rattle.interrupt.specs.declared.types.InterruptState.TheVariants.{Inactive, Pending, Active, ActivePending}
 
 -- 0 to 1019 are interrupts
-unfoldable pub decoded : ℕ → DecodedIntId
-decoded raw = cond (ltb raw 1020) (Valid (record { 0 = raw })) Reserved
+unfoldable pub decoded : ℕ → Option IntId
+decoded raw = cond (ltb raw 1020) (Some (record { 0 = raw })) None
 
-abbrev pub is_valid : DecodedIntId → Bool
-is_valid (Valid n) = true
-is_valid Reserved = false
+abbrev pub is_valid : Option IntId → Bool
+is_valid (Some n) = true
+is_valid None = false
 
 abbrev pub is_sgi : IntId → Bool
 is_sgi n = ltb n.0 16

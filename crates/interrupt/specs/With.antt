@@ -1,11 +1,10 @@
 -- A record with one field new, and all else as it was: what the transitions of Record.antt are written with. There is no shorter way to say it
 -- than field by field.
-use Rattle.std.specs.Prelude.{Bool}
+use Rattle.std.specs.Prelude.{Bool, ℕ, Option}
 use Rattle.interrupt.specs.declared.types.Priority.{Priority}
 use Rattle.interrupt.specs.declared.types.TriggerMode.{TriggerMode}
-use Rattle.interrupt.specs.declared.record.CpuTargetMask.{CpuTargetMask}
-use Rattle.interrupt.specs.declared.record.Owner.{Owner}
 use Rattle.interrupt.specs.declared.record.InterruptRecord.{InterruptRecord}
+use Rattle.interrupt.specs.declared.types.GicVcpuId.{GicVcpuId}
 
 abbrev pub with_enabled : Bool → InterruptRecord → InterruptRecord
 with_enabled x r = record {
@@ -119,7 +118,7 @@ with_trigger x r = record {
   owner = r.owner;
 }
 
-abbrev pub with_mask : CpuTargetMask → InterruptRecord → InterruptRecord
+abbrev pub with_mask : Option ℕ → InterruptRecord → InterruptRecord
 with_mask x r = record {
   enabled = r.enabled;
   pending = r.pending;
@@ -133,7 +132,7 @@ with_mask x r = record {
   owner = r.owner;
 }
 
-abbrev pub with_owner : Owner → InterruptRecord → InterruptRecord
+abbrev pub with_owner : Option GicVcpuId → InterruptRecord → InterruptRecord
 with_owner x r = record {
   enabled = r.enabled;
   pending = r.pending;

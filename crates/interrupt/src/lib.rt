@@ -5,5 +5,5 @@
 pub mod record;
 pub mod types;
 
-pub use record::{CpuTargetMask, InterruptRecord, Owner, Synchronized};
-pub use types::{DecodedIntId, GicVcpuId, IntId, InterruptState, Priority, TriggerMode};
+pub use record::{InterruptRecord, Synchronized};
+pub use types::{GicVcpuId, IntId, InterruptState, Priority, TriggerMode};

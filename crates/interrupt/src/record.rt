@@ -3,23 +3,8 @@
 // Flags are joined by `&` and `|`, where the Rust has `&&` and `||`: the same value, and one test where a branch would make two.
 ghost use Rattle.std.specs.Prelude.{◌≡◌};
 ghost use Rattle.interrupt.specs.Record.{new_record, starting_record, set_enabled, set_pending, set_active, state_of, set_state, has_delivery_state, clear_delivery_state, mark_inflight, synchronize_inflight, cancel_inflight, finish_inflight, deactivate_inflight, set_priority, set_trigger, set_cpu_target_mask, set_owner, set_level, pulse, complete, deliverable, held};
-ghost use Rattle.interrupt.specs.With.{with_trigger, with_mask, with_owner};
 
 use crate::types::{GicVcpuId, IntId, InterruptState, Priority, TriggerMode};
-
-// The vCPUs that an SPI is offered to; "unset" until it is first written.
-#[derive(Clone, Copy)]
-pub enum CpuTargetMask {
-    Unset,
-    Mask(u8),
-}
-
-// Who serves an interrupt in flight. The Rust keeps it in delivery slots.
-#[derive(Clone, Copy)]
-pub enum Owner {
-    Nobody,
-    Vcpu(GicVcpuId),
-}
 
 #[derive(Clone, Copy)]
 pub struct InterruptRecord {
@@ -31,8 +16,10 @@ pub struct InterruptRecord {
     pub line_asserted: bool,
     pub priority: Priority,
     pub trigger: TriggerMode,
-    pub cpu_target_mask: CpuTargetMask,
-    pub owner: Owner,
+    // The vCPUs that an SPI is offered to; none until it is first written.
+    pub cpu_target_mask: Option<u8>,
+    // Who serves an interrupt in flight. The Rust keeps it in delivery slots.
+    pub owner: Option<GicVcpuId>,
 }
 
 // What `synchronize_inflight` gives: the record, and the merged state.
@@ -56,8 +43,8 @@ impl InterruptRecord {
             line_asserted: false,
             priority: Priority::DEFAULT,
             trigger,
-            cpu_target_mask: CpuTargetMask::Unset,
-            owner: Owner::Nobody,
+            cpu_target_mask: None,
+            owner: None,
         }
     }
 
@@ -106,16 +93,11 @@ impl InterruptRecord {
     pub fn state(self) -> InterruptState
         ensures { result ≡ state_of self }
     {
-        if self.active {
-            if self.pending {
-                InterruptState::ActivePending
-            } else {
-                InterruptState::Active
-            }
-        } else if self.pending {
-            InterruptState::Pending
-        } else {
-            InterruptState::Inactive
+        match (self.active, self.pending) {
+            (true, true) => InterruptState::ActivePending,
+            (true, false) => InterruptState::Active,
+            (false, true) => InterruptState::Pending,
+            (false, false) => InterruptState::Inactive,
         }
     }
 
@@ -184,8 +166,7 @@ impl InterruptRecord {
     fn held(self) -> bool
         ensures { result ≡ held self }
     {
-        let trigger = self.trigger;
-        trigger.is_level() & self.line_asserted
+        self.trigger.is_level() & self.line_asserted
     }
 
     #[tactic(auto, unfolding(crate::specs::Record::finish_inflight, crate::specs::Record::deactivate_inflight))]
@@ -214,45 +195,24 @@ impl InterruptRecord {
         self
     }
 
-    // The record written anew, with another trigger, mask and owner.
-    fn with(self, trigger: TriggerMode, cpu_target_mask: CpuTargetMask, owner: Owner) -> Self
-        ensures { result ≡ with_trigger trigger (with_mask cpu_target_mask (with_owner owner self)) }
-    {
-        let priority = self.priority;
-        Self {
-            enabled: self.enabled,
-            pending: self.pending,
-            active: self.active,
-            inflight: self.inflight,
-            redelivery_pending: self.redelivery_pending,
-            line_asserted: self.line_asserted,
-            priority,
-            trigger,
-            cpu_target_mask,
-            owner,
-        }
-    }
-
     #[tactic(auto, unfolding(crate::specs::Record::set_trigger))]
-    pub fn set_trigger(self, trigger: TriggerMode) -> Self
+    pub fn set_trigger(mut self, trigger: TriggerMode) -> Self
         ensures { result ≡ set_trigger self trigger }
     {
-        let cpu_target_mask = self.cpu_target_mask;
-        let owner = self.owner;
-        self.with(trigger, cpu_target_mask, owner)
+        self.trigger = trigger;
+        self
     }
 
     #[tactic(auto, unfolding(crate::specs::Record::set_cpu_target_mask))]
-    pub fn set_cpu_target_mask(self, mask: u8) -> Self
+    pub fn set_cpu_target_mask(mut self, mask: u8) -> Self
         ensures { result ≡ set_cpu_target_mask self mask }
     {
-        let trigger = self.trigger;
-        let owner = self.owner;
-        self.with(trigger, CpuTargetMask::Mask(mask), owner)
+        self.cpu_target_mask = Some(mask);
+        self
     }
 
     #[tactic(auto, unfolding(crate::specs::Record::set_owner))]
-    pub fn set_owner(mut self, owner: Owner) -> Self
+    pub fn set_owner(mut self, owner: Option<GicVcpuId>) -> Self
         ensures { result ≡ set_owner self owner }
     {
         self.owner = owner;
@@ -266,14 +226,12 @@ impl InterruptRecord {
     {
         let rising_edge = asserted & !self.line_asserted;
         self.line_asserted = asserted;
-        let trigger = self.trigger;
-        let level = trigger.is_level();
         if asserted {
             self.pending = true;
             if self.inflight & self.active & rising_edge {
                 self.redelivery_pending = true;
             }
-        } else if level & !self.active {
+        } else if self.trigger.is_level() & !self.active {
             self.pending = false;
             self.redelivery_pending = false;
         }

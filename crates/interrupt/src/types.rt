@@ -1,25 +1,18 @@
 // The numbers that stay apart, and the two small enums of a record.
 ghost use Rattle.std.specs.Prelude.{◌≡◌};
-ghost use Rattle.interrupt.specs.Types.{decoded, is_valid, is_sgi, is_private_id, priority_of, is_level, starting_trigger, pending_in, active_in};
+ghost use Rattle.interrupt.specs.Types.{decoded, is_sgi, is_private_id, priority_of, is_level, starting_trigger, pending_in, active_in};
 
 // An interrupt number: SGIs 0 to 15, PPIs 16 to 31, SPIs from 32.
-#[derive(Clone, Copy)]
+#[derive(Clone, Copy, PartialEq, Eq)]
 pub struct IntId(pub u32);
 
 // A vCPU number: any number can be given in a call, and the calls look it up.
-#[derive(Clone, Copy)]
+#[derive(Clone, Copy, PartialEq, Eq)]
 pub struct GicVcpuId(pub usize);
 
 // A priority: the smaller number is the more urgent.
-#[derive(Clone, Copy)]
+#[derive(Clone, Copy, PartialEq, Eq, PartialOrd, Ord)]
 pub struct Priority(pub u8);
-
-// What a number is: an interrupt's, or none's.
-#[derive(Clone, Copy)]
-pub enum DecodedIntId {
-    Valid(IntId),
-    Reserved,
-}
 
 #[derive(Clone, Copy)]
 pub enum TriggerMode {
@@ -39,16 +32,12 @@ impl IntId {
     // What an acknowledge answers when it hands out nothing.
     pub const SPURIOUS: Self = Self(1023);
 
-    // 1020 to 1023 are no interrupts.
+    // A number that is an interrupt's: 1020 to 1023 are none's.
     #[tactic(auto, unfolding(crate::specs::Types::decoded))]
-    pub fn new(raw: u32) -> DecodedIntId
+    pub fn new(raw: u32) -> Option<IntId>
         ensures { result ≡ decoded raw }
     {
-        if raw < 1020 {
-            DecodedIntId::Valid(IntId(raw))
-        } else {
-            DecodedIntId::Reserved
-        }
+        if raw < 1020 { Some(IntId(raw)) } else { None }
     }
 
     pub fn is_sgi(self) -> bool
@@ -62,17 +51,6 @@ impl IntId {
         ensures { result ≡ is_private_id self }
     {
         self.0 < 32
-    }
-}
-
-impl DecodedIntId {
-    pub fn is_valid(self) -> bool
-        ensures { result ≡ is_valid self }
-    {
-        match self {
-            DecodedIntId::Valid(_) => true,
-            DecodedIntId::Reserved => false,
-        }
     }
 }
 
@@ -103,10 +81,7 @@ impl TriggerMode {
     pub fn is_level(self) -> bool
         ensures { result ≡ is_level self }
     {
-        match self {
-            TriggerMode::Level => true,
-            TriggerMode::Edge => false,
-        }
+        matches!(self, TriggerMode::Level)
     }
 }
 
@@ -114,22 +89,15 @@ impl InterruptState {
     pub fn pending(self) -> bool
         ensures { result ≡ pending_in self }
     {
-        match self {
-            InterruptState::Inactive => false,
-            InterruptState::Pending => true,
-            InterruptState::Active => false,
-            InterruptState::ActivePending => true,
-        }
+        matches!(
+            self,
+            InterruptState::Pending | InterruptState::ActivePending
+        )
     }
 
     pub fn active(self) -> bool
         ensures { result ≡ active_in self }
     {
-        match self {
-            InterruptState::Inactive => false,
-            InterruptState::Pending => false,
-            InterruptState::Active => true,
-            InterruptState::ActivePending => true,
-        }
+        matches!(self, InterruptState::Active | InterruptState::ActivePending)
     }
 }

@@ -6,89 +6,81 @@
 ghost use Rattle.std.specs.Prelude.{◌<◌, ◌^◌};
 
 use interrupt::record::{after_level, after_pulse};
-use interrupt::{
-    CpuTargetMask, DecodedIntId, IntId, InterruptRecord, InterruptState, Owner, Priority,
-    TriggerMode,
-};
-use std::io;
+use interrupt::{GicVcpuId, IntId, InterruptRecord, InterruptState, Priority, TriggerMode};
 use std::io::Stdout;
+use std::{fmt, io};
 
-fn flag(set: bool, letter: u8) -> u8 {
-    if set { letter } else { b'-' }
+// Each type here says how a value of another crate's type is shown.
+#[derive(Clone, Copy)]
+struct Record(InterruptRecord);
+
+#[derive(Clone, Copy)]
+struct Mask(Option<u8>);
+
+#[derive(Clone, Copy)]
+struct OwnedBy(Option<GicVcpuId>);
+
+fn flag(set: bool, letter: char) -> char {
+    if set { letter } else { '-' }
 }
 
-fn trigger_letter(trigger: TriggerMode) -> u8 {
-    match trigger {
-        TriggerMode::Level => b'l',
-        TriggerMode::Edge => b'e',
+impl fmt::Display for Mask {
+    fn fmt<W: fmt::Write>(&self, f: &mut fmt::Formatter<W>) -> fmt::Result {
+        match self.0 {
+            None => write!(f, ".."),
+            Some(byte) => write!(f, "{byte:02x}"),
+        }
     }
 }
 
-fn hex(digit: u8) -> u8 {
-    if digit < 10 {
-        b'0' + digit
-    } else {
-        87 + digit % 16
+impl fmt::Display for OwnedBy {
+    fn fmt<W: fmt::Write>(&self, f: &mut fmt::Formatter<W>) -> fmt::Result {
+        match self.0 {
+            None => write!(f, "."),
+            Some(vcpu) => write!(f, "{:x}", vcpu.0),
+        }
     }
 }
 
-fn mask_digit(mask: CpuTargetMask, scale: u8) -> u8
-    requires { 0 < scale }
-{
-    match mask {
-        CpuTargetMask::Unset => b'.',
-        CpuTargetMask::Mask(byte) => hex(byte / scale % 16),
-    }
-}
-
-fn owner_digit(owner: Owner) -> u8 {
-    match owner {
-        Owner::Nobody => b'.',
-        Owner::Vcpu(vcpu) => hex((vcpu.0 % 16) as u8),
+impl fmt::Display for Record {
+    fn fmt<W: fmt::Write>(&self, f: &mut fmt::Formatter<W>) -> fmt::Result {
+        let r = word::decode(word::encode(self.0));
+        let trigger = match r.trigger {
+            TriggerMode::Level => 'l',
+            TriggerMode::Edge => 'e',
+        };
+        write!(
+            f,
+            "{}{}{}{}{}{}{trigger}:{:02x}:{}:{}",
+            flag(r.enabled, 'E'),
+            flag(r.pending, 'P'),
+            flag(r.active, 'A'),
+            flag(r.inflight, 'I'),
+            flag(r.redelivery_pending, 'R'),
+            flag(r.line_asserted, 'L'),
+            r.priority.0,
+            Mask(r.cpu_target_mask),
+            OwnedBy(r.owner),
+        )
     }
 }
 
 fn show(out: Stdout, record: InterruptRecord) -> io::Result<()> {
-    let r = word::decode(word::encode(record));
-    let trigger = r.trigger;
-    let mask = r.cpu_target_mask;
-    let owner = r.owner;
-    let text = [
-        b' ',
-        flag(r.enabled, b'E'),
-        flag(r.pending, b'P'),
-        flag(r.active, b'A'),
-        flag(r.inflight, b'I'),
-        flag(r.redelivery_pending, b'R'),
-        flag(r.line_asserted, b'L'),
-        trigger_letter(trigger),
-        b':',
-        hex(r.priority.0 / 16),
-        hex(r.priority.0 % 16),
-        b':',
-        mask_digit(mask, 16),
-        mask_digit(mask, 1),
-        b':',
-        owner_digit(owner),
-    ];
-    out.write_all(&text)
+    print!(out; " {}", Record(record))
 }
 
 fn show_bool(out: Stdout, b: bool) -> io::Result<()> {
-    if b {
-        out.write_all(b" yes")
-    } else {
-        out.write_all(b" no")
-    }
+    print!(out; " {}", if b { "yes" } else { "no" })
 }
 
 fn show_state(out: Stdout, state: InterruptState) -> io::Result<()> {
-    match state {
-        InterruptState::Inactive => out.write_all(b" Inactive"),
-        InterruptState::Pending => out.write_all(b" Pending"),
-        InterruptState::Active => out.write_all(b" Active"),
-        InterruptState::ActivePending => out.write_all(b" ActivePending"),
-    }
+    let name = match state {
+        InterruptState::Inactive => "Inactive",
+        InterruptState::Pending => "Pending",
+        InterruptState::Active => "Active",
+        InterruptState::ActivePending => "ActivePending",
+    };
+    print!(out; " {name}")
 }
 
 fn accessors(out: Stdout, r: InterruptRecord) -> io::Result<()> {
@@ -112,10 +104,8 @@ fn bits(out: Stdout, r: InterruptRecord) -> io::Result<()> {
 
 fn synchronized(out: Stdout, r: InterruptRecord, state: InterruptState) -> io::Result<()> {
     let got = r.synchronize_inflight(state);
-    let after = got.after;
-    let merged = got.merged;
-    show(out, after)?;
-    show_state(out, merged)
+    show(out, got.after)?;
+    show_state(out, got.merged)
 }
 
 fn delivery(out: Stdout, r: InterruptRecord) -> io::Result<()> {
@@ -149,19 +139,15 @@ fn settings(out: Stdout, r: InterruptRecord) -> io::Result<()> {
     show(out, r.set_cpu_target_mask(255))
 }
 
-fn newline(out: Stdout) -> io::Result<()> {
-    out.write_all(b"\n")
-}
-
 // The new record of a number at both triggers.
 fn new_row(out: Stdout, raw: u32) -> io::Result<()> {
     print!(out; "{raw}")?;
-    let DecodedIntId::Valid(intid) = IntId::new(raw) else {
-        return out.write_all(b" none\n");
+    let Some(intid) = IntId::new(raw) else {
+        return println!(out; " none");
     };
     show(out, InterruptRecord::new(intid, TriggerMode::Level))?;
     show(out, InterruptRecord::new(intid, TriggerMode::Edge))?;
-    newline(out)
+    println!(out; "")
 }
 
 fn state_row(out: Stdout, w: u32) -> io::Result<()> {
@@ -172,7 +158,7 @@ fn state_row(out: Stdout, w: u32) -> io::Result<()> {
     delivery(out, r)?;
     inputs(out, r)?;
     settings(out, r)?;
-    newline(out)
+    println!(out; "")
 }
 
 // Every combination of the six flags and the trigger, above them priority, mask and owner.

@@ -1,5 +1,6 @@
 -- "So at most 255 are held and an acknowledge never lacks room"; of a stack whose priorities fall, lie below 255 and are even, at most 128
 -- (document 02, Two). Assumes nothing.
+use Rattle.std.specs.Prelude.{Option, Some, None}
 use mathlib.Core.Path.{◌≡◌, refl, ap}
 use mathlib.Core.List.{List}
 use Prim.Native.Nat.{ℕ, zero, suc, ◌+◌, ◌*◌, ◌≤◌, ◌<◌}
@@ -9,8 +10,6 @@ use Rattle.interrupt.specs.Types.{idle_priority}
 use Rattle.state.specs.Layout.{stack_capacity}
 use Rattle.state.specs.declared.layout.Shape.{Shape}
 use Rattle.select.specs.declared.Candidate.{Candidate}
-use Rattle.select.specs.declared.Selected.{Selected}
-use Rattle.select.specs.declared.Selected.TheVariants.{Best, Nothing}
 use Rattle.service.specs.Service.{depth_at, running_of, running}
 use Rattle.service.proofs.Stacks.{stack_newest}
 use Rattle.acknowledge.specs.Acknowledge.{offer, answered, acknowledge, refusal_of}
@@ -37,7 +36,7 @@ module _ (shape : Shape) (v : ℕ) (s : List ℕ) (h : Orderly shape s) (exists 
   running_newest d p = ap running_of (stack_newest shape v s d p)
 
   -- what is handed out finds room
-  pub offer_room : (e : Candidate) → offer shape v s ≡ Best e → depth_at shape v s < stack_capacity
+  pub offer_room : (e : Candidate) → offer shape v s ≡ Some e → depth_at shape v s < stack_capacity
   offer_room e p = go (depth_at shape v s) refl
     where
       go : (d : ℕ) → depth_at shape v s ≡ d → d < stack_capacity
@@ -48,6 +47,6 @@ module _ (shape : Shape) (v : ℕ) (s : List ℕ) (h : Orderly shape s) (exists 
   unfolding answered
   never_full = go (offer shape v s) refl
     where
-      go : (b : Selected) → offer shape v s ≡ b → refusal_of (answered shape v s b) ≡ 0
-      go Nothing p = refl
-      go (Best e) p = simp (lt-ltb (depth_at shape v s) stack_capacity (offer_room e p))
+      go : (b : Option Candidate) → offer shape v s ≡ b → refusal_of (answered shape v s b) ≡ 0
+      go None p = refl
+      go (Some e) p = simp (lt-ltb (depth_at shape v s) stack_capacity (offer_room e p))

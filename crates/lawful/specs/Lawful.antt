@@ -1,27 +1,25 @@
 -- What holds of a controller after any sequence of calls: the mission's demand 3 in its own words, with what document 02 adds to them
 -- (`Orderly`), and the lawful states of its request One (`Lawful`), which have more. Demand 3 alone is not kept by every call: an SGI with its
 -- line high would be set pending by an enable with no source set. A lawful state stays lawful.
-use Rattle.std.specs.Prelude.{◌≡◌, true, false, not, List, ℕ, ◌%◌, ◌^◌, ◌<◌, eqb}
+use Rattle.std.specs.Prelude.{◌≡◌, true, false, not, List, ℕ, ◌%◌, ◌^◌, ◌<◌, eqb, Option, Some, None}
 use Rattle.interrupt.specs.Types.{idle_priority}
-use Rattle.interrupt.specs.declared.record.CpuTargetMask.TheVariants.{Unset}
 use Rattle.interrupt.specs.declared.record.InterruptRecord.{InterruptRecord}
-use Rattle.interrupt.specs.declared.record.Owner.{Owner}
-use Rattle.interrupt.specs.declared.record.Owner.TheVariants.{Nobody, Vcpu}
 use Rattle.interrupt.specs.declared.types.TriggerMode.TheVariants.{Edge}
 use Rattle.word.specs.Word.{mask_byte}
 use Rattle.state.specs.declared.layout.Shape.{Shape}
 use Rattle.state.specs.Lent.{HoldsState}
 use Rattle.state.specs.Words.{RecordThere, record_at, sources_at, entry_at, Canonical, Exact}
 use Rattle.service.specs.Service.{depth_at}
+use Rattle.interrupt.specs.declared.types.GicVcpuId.{GicVcpuId}
 
 -- the priority of entry i under service at v, 0 the oldest
 abbrev pub priority_at : Shape → ℕ → ℕ → List ℕ → ℕ
 priority_at shape v i s = (entry_at shape v i s).priority.0
 
 -- charged to a vCPU that exists
-abbrev pub Charged : Shape → Owner → Type 0
-Charged shape Nobody = ⊥
-Charged shape (Vcpu u) = u.0 < shape.count
+abbrev pub Charged : Shape → Option GicVcpuId → Type 0
+Charged shape None = ⊥
+Charged shape (Some u) = u.0 < shape.count
 
 -- demand 3, of one record
 pub record OrderlyRecord (shape : Shape) (r : InterruptRecord) : Type 0 where
@@ -54,10 +52,10 @@ pub record LawfulRecord (shape : Shape) (v n : ℕ) (r : InterruptRecord) : Type
   pub sgi_unnoted : n < 16 → r.redelivery_pending ≡ false
   -- masks name existing vCPUs and private records have none;
   pub existing : mask_byte r.cpu_target_mask < 2 ^ shape.count
-  pub unmasked : n < 32 → r.cpu_target_mask ≡ Unset
+  pub unmasked : n < 32 → r.cpu_target_mask ≡ None
   -- a private record in flight belongs to its own vCPU and one not in flight to nobody"
-  pub own : n < 32 → r.inflight ≡ true → r.owner ≡ Vcpu (record { 0 = v })
-  pub idle : r.inflight ≡ false → r.owner ≡ Nobody
+  pub own : n < 32 → r.inflight ≡ true → r.owner ≡ Some (record { 0 = v })
+  pub idle : r.inflight ≡ false → r.owner ≡ None
 
 -- request One: "A lawful state has demand 3's properties and these"
 pub record Lawful (shape : Shape) (s : List ℕ) : Type 0 where

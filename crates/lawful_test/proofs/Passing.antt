@@ -1,4 +1,5 @@
 -- Words that hold a state pass the test of LawfulTest.antt exactly if they are lawful. Assumes nothing.
+use Rattle.std.specs.Prelude.{Option, Some, None}
 use mathlib.Core.Path.{◌≡◌, refl, sym, ap, ◌∙◌}
 use mathlib.Core.Bool.{Bool, true, false, not, ◌&&◌, true≢false, false≢true}
 use mathlib.Core.List.{List}
@@ -9,11 +10,7 @@ use lib.Pow.{pow_pos}
 use borrow.Author.Tests.{lt-ltb, le-ltb, ltb-true, ltb-false, eqb-true, eq-eqb, not-true, not-false}
 use Rattle.interrupt.specs.Record.{is_ready}
 use Rattle.interrupt.specs.Types.{is_level, idle_priority}
-use Rattle.interrupt.specs.declared.record.CpuTargetMask.{CpuTargetMask}
-use Rattle.interrupt.specs.declared.record.CpuTargetMask.TheVariants.{Unset, Mask}
 use Rattle.interrupt.specs.declared.record.InterruptRecord.{InterruptRecord}
-use Rattle.interrupt.specs.declared.record.Owner.{Owner}
-use Rattle.interrupt.specs.declared.record.Owner.TheVariants.{Nobody, Vcpu}
 use Rattle.interrupt.specs.declared.types.TriggerMode.{TriggerMode}
 use Rattle.interrupt.specs.declared.types.TriggerMode.TheVariants.{Level, Edge}
 use Rattle.word.specs.Word.{record_of, mask_byte}
@@ -28,6 +25,7 @@ use Rattle.state.proofs.Tests.{left_true, right_true, not_below, every_at, every
 use Rattle.service.specs.Service.{depth_at, stack_to, running_of}
 use Rattle.lawful.specs.Lawful.{priority_at, Charged, OrderlyRecord, LawfulRecord, Lawful}
 use Rattle.lawful_test.specs.LawfulTest.{implied, owner_lawful, mask_lawful, sgi_lawful, record_lawful, sources_lawful, number_lawful, entry_lawful_at, stack_lawful, vcpu_lawful, says_same, bit_lawful, spi_passes, is_lawful}
+use Rattle.interrupt.specs.declared.types.GicVcpuId.{GicVcpuId}
 
 pub implied_holds : (a b : Bool) → (a ≡ true → b ≡ true) → implied a b ≡ true
 implied_holds true b h = h refl
@@ -50,40 +48,40 @@ private_or {X} n low high = go (ltb n 32) refl
 
 module _ (shape : Shape) where
   -- what an owner is that passes
-  record Owned (v n : ℕ) (inflight : Bool) (owner : Owner) : Type 0 where
+  record Owned (v n : ℕ) (inflight : Bool) (owner : Option GicVcpuId) : Type 0 where
     pub charged : inflight ≡ true → Charged shape owner
-    pub own : n < 32 → inflight ≡ true → owner ≡ Vcpu (record { 0 = v })
-    pub idle : inflight ≡ false → owner ≡ Nobody
+    pub own : n < 32 → inflight ≡ true → owner ≡ Some (record { 0 = v })
+    pub idle : inflight ≡ false → owner ≡ None
 
-  owner_passes : (v n : ℕ) (b : Bool) (o : Owner) → Owned v n b o → owner_lawful shape v n b o ≡ true
-  owner_passes v n false Nobody h = refl
-  owner_passes v n true Nobody h = absurd (h.charged refl)
-  owner_passes v n false (Vcpu u) h = let e = h.idle refl in let z : ◌≡◌ {A = ℕ} 0 1 = cc in absurd (omega arith)
-  owner_passes v n true (Vcpu u) h = private_or n (λ low. let e = h.own low refl in let q : u.0 ≡ v = cc in rw (lt-ltb n 32 low) (eq-eqb u.0 v q)) (λ high. rw (le-ltb n 32 high) (lt-ltb u.0 shape.count (h.charged refl)))
+  owner_passes : (v n : ℕ) (b : Bool) (o : Option GicVcpuId) → Owned v n b o → owner_lawful shape v n b o ≡ true
+  owner_passes v n false None h = refl
+  owner_passes v n true None h = absurd (h.charged refl)
+  owner_passes v n false (Some u) h = let e = h.idle refl in let z : ◌≡◌ {A = ℕ} 0 1 = cc in absurd (omega arith)
+  owner_passes v n true (Some u) h = private_or n (λ low. let e = h.own low refl in let q : u.0 ≡ v = cc in rw (lt-ltb n 32 low) (eq-eqb u.0 v q)) (λ high. rw (le-ltb n 32 high) (lt-ltb u.0 shape.count (h.charged refl)))
 
-  passes_owner : (v n : ℕ) (b : Bool) (o : Owner) → (n < 32 → v < shape.count) → owner_lawful shape v n b o ≡ true → Owned v n b o
-  passes_owner v n false Nobody banked e = record { charged = λ f. absurd (false≢true f); own = λ low f. absurd (false≢true f); idle = λ f. refl }
-  passes_owner v n true Nobody banked e = absurd (false≢true e)
-  passes_owner v n false (Vcpu u) banked e = absurd (false≢true e)
-  passes_owner v n true (Vcpu u) banked e =
+  passes_owner : (v n : ℕ) (b : Bool) (o : Option GicVcpuId) → (n < 32 → v < shape.count) → owner_lawful shape v n b o ≡ true → Owned v n b o
+  passes_owner v n false None banked e = record { charged = λ f. absurd (false≢true f); own = λ low f. absurd (false≢true f); idle = λ f. refl }
+  passes_owner v n true None banked e = absurd (false≢true e)
+  passes_owner v n false (Some u) banked e = absurd (false≢true e)
+  passes_owner v n true (Some u) banked e =
       private_or n
       (λ low. let q : u.0 ≡ v = eqb-true u.0 v (rw (lt-ltb n 32 low) at e) in
-      record { charged = λ f. let b = banked low in omega arith; own = λ l f. ap (λ (x : ℕ). Vcpu (record { 0 = x })) q; idle = λ f. absurd (true≢false f) })
+      record { charged = λ f. let b = banked low in omega arith; own = λ l f. ap (λ (x : ℕ). Some (record { 0 = x })) q; idle = λ f. absurd (true≢false f) })
       (λ high. record { charged = λ f. ltb-true u.0 shape.count (rw (le-ltb n 32 high) at e); own = λ low f. absurd (omega arith); idle = λ f. absurd (true≢false f) })
 
-  record Masked (n : ℕ) (mask : CpuTargetMask) : Type 0 where
+  record Masked (n : ℕ) (mask : Option ℕ) : Type 0 where
     pub existing : mask_byte mask < 2 ^ shape.count
-    pub unmasked : n < 32 → mask ≡ Unset
+    pub unmasked : n < 32 → mask ≡ None
 
-  mask_passes : (n : ℕ) (m : CpuTargetMask) → Masked n m → mask_lawful shape n m ≡ true
-  mask_passes n Unset h = refl
-  mask_passes n (Mask byte) h =
+  mask_passes : (n : ℕ) (m : Option ℕ) → Masked n m → mask_lawful shape n m ≡ true
+  mask_passes n None h = refl
+  mask_passes n (Some byte) h =
       private_or n (λ low. let e = h.unmasked low in let z : ◌≡◌ {A = ℕ} 0 1 = cc in absurd (omega arith))
       (λ high. simp (le-ltb n 32 high, lt-ltb byte (2 ^ shape.count) h.existing))
 
-  passes_mask : (n : ℕ) (m : CpuTargetMask) → mask_lawful shape n m ≡ true → Masked n m
-  passes_mask n Unset e = record { existing = pow_pos shape.count; unmasked = λ low. refl }
-  passes_mask n (Mask byte) e =
+  passes_mask : (n : ℕ) (m : Option ℕ) → mask_lawful shape n m ≡ true → Masked n m
+  passes_mask n None e = record { existing = pow_pos shape.count; unmasked = λ low. refl }
+  passes_mask n (Some byte) e =
       record {
         existing = ltb-true byte (2 ^ shape.count) (right_true (not (ltb n 32)) (ltb byte (2 ^ shape.count)) e);
         unmasked = λ low. let high : 32 ≤ n = not_below n 32 (left_true (not (ltb n 32)) (ltb byte (2 ^ shape.count)) e) in absurd (omega arith);
@@ -235,9 +233,9 @@ module _ (shape : Shape) (s : List ℕ) where
       (bit_passes h.orderly.summary (32 + k) (omega arith) (omega arith))))
 
   -- from 32 up a record is met alike by all
-  owner_alike : (v n : ℕ) (b : Bool) (o : Owner) → 32 ≤ n → owner_lawful shape v n b o ≡ owner_lawful shape 0 n b o
-  owner_alike v n b Nobody h = refl
-  owner_alike v n b (Vcpu u) h = simp (le-ltb n 32 h)
+  owner_alike : (v n : ℕ) (b : Bool) (o : Option GicVcpuId) → 32 ≤ n → owner_lawful shape v n b o ≡ owner_lawful shape 0 n b o
+  owner_alike v n b None h = refl
+  owner_alike v n b (Some u) h = simp (le-ltb n 32 h)
 
   record_alike : (v n : ℕ) → 32 ≤ n → record_lawful shape v n (record_at shape v n s) ≡ record_lawful shape 0 n (record_at shape 0 n s)
   unfolding record_lawful record_slot

@@ -1,6 +1,7 @@
 -- What is quiet passes: of a word that is, only its mask counts, and of an SGI's its trigger and line. Assumes nothing.
+use Rattle.std.specs.Prelude.{None}
 use mathlib.Core.Path.{◌≡◌, refl}
-use mathlib.Core.Bool.{Bool, true, false, ◌&&◌, and-true}
+use mathlib.Core.Bool.{Bool, true, false, ◌&&◌, and-true, beq}
 use mathlib.Core.List.{List}
 use Prim.Native.Nat.{ℕ, ◌/◌, ◌%◌, ◌^◌, ◌≤◌, ◌<◌}
 use native.Mathlib.Omega.{arith}
@@ -8,13 +9,12 @@ use lib.Dec.{eqb, ltb}
 use lib.Pow.{pow_mono}
 use borrow.Author.Tests.{lt-ltb, le-ltb, ltb-true, eqb-true, eq-eqb, ne_eqb}
 use Rattle.interrupt.specs.declared.record.InterruptRecord.{InterruptRecord}
-use Rattle.interrupt.specs.declared.record.Owner.TheVariants.{Nobody}
 use Rattle.word.specs.Word.{record_of, flag, mask_of}
 use Rattle.word.specs.Fields.{field}
 use Rattle.state.specs.declared.layout.Shape.{Shape}
 use Rattle.state.specs.Words.{record_at, sources_at}
 use Rattle.state.proofs.Tests.{left_true, right_true}
-use Rattle.lawful_test.specs.LawfulTest.{mask_lawful, sgi_lawful, record_lawful, sources_lawful, number_lawful}
+use Rattle.lawful_test.specs.LawfulTest.{mask_lawful, sgi_lawful, record_lawful, sources_lawful, number_lawful, says_same}
 use Rattle.lawful_test.specs.Quiet.{quiet}
 use Rattle.lawful_test.proofs.Passing.{implied_holds}
 
@@ -22,7 +22,7 @@ use Rattle.lawful_test.proofs.Passing.{implied_holds}
 record Idle (r : InterruptRecord) : Type 0 where
   pub waiting : r.inflight ≡ false
   pub unnoted : r.redelivery_pending ≡ false
-  pub nobody's : r.owner ≡ Nobody
+  pub nobody's : r.owner ≡ None
 
 module _ (shape : Shape) (v n w : ℕ) where
   idle_passes : (r : InterruptRecord) → Idle r → mask_lawful shape n r.cpu_target_mask ≡ true → sgi_lawful n r ≡ true → record_lawful shape v n r ≡ true
@@ -91,3 +91,10 @@ module _ (shape : Shape) (v n : ℕ) (s : List ℕ) where
   pub number_sgi : n < 16 → number_lawful shape v s n ≡ (record_lawful shape v n (record_at shape v n s) && sources_lawful (sources_at shape v n s) (record_at shape v n s).pending)
   unfolding number_lawful
   number_sgi low = simp (lt-ltb n 16 low)
+
+-- the test of two answers, as the code asks it
+pub same_asked : (a b : Bool) → beq a b ≡ says_same a b
+same_asked true true = refl
+same_asked true false = refl
+same_asked false true = refl
+same_asked false false = refl

@@ -1,18 +1,15 @@
 -- `Lawful` as a test of the words. A reader need not believe any of it: `lawful_passes` and `passes_lawful` (proofs/Passing.antt) say that
 -- words that hold a state pass exactly if they are lawful. Each test names the fields of Lawful.antt that it stands for.
-use Rattle.std.specs.Prelude.{Bool, true, false, not, cond, ◌&&◌, ◌||◌, List, ℕ, ◌+◌, ◌-◌, ◌%◌, ◌^◌, eqb, ltb}
+use Rattle.std.specs.Prelude.{Bool, true, false, not, cond, ◌&&◌, ◌||◌, List, ℕ, ◌+◌, ◌-◌, ◌%◌, ◌^◌, eqb, ltb, Option, Some, None}
 use Rattle.interrupt.specs.Types.{is_sgi, is_private_id, is_level}
 use Rattle.interrupt.specs.Record.{is_ready}
-use Rattle.interrupt.specs.declared.record.CpuTargetMask.{CpuTargetMask}
-use Rattle.interrupt.specs.declared.record.CpuTargetMask.TheVariants.{Unset, Mask}
 use Rattle.interrupt.specs.declared.record.InterruptRecord.{InterruptRecord}
-use Rattle.interrupt.specs.declared.record.Owner.{Owner}
-use Rattle.interrupt.specs.declared.record.Owner.TheVariants.{Nobody, Vcpu}
 use Rattle.state.specs.declared.layout.Shape.{Shape}
 use Rattle.state.specs.declared.words.Entry.{Entry}
 use Rattle.state.specs.Loop.{every_below}
 use Rattle.state.specs.Words.{record_at, ready_bit, sources_at, entry_at}
 use Rattle.service.specs.Service.{depth_at, stack_to, running_of}
+use Rattle.interrupt.specs.declared.types.GicVcpuId.{GicVcpuId}
 
 -- if a, then b
 abbrev pub implied : Bool → Bool → Bool
@@ -23,14 +20,14 @@ abbrev pub may_serve : Shape → ℕ → ℕ → ℕ → Bool
 may_serve shape v n u = cond (is_private_id (record { 0 = n })) (eqb u v) (ltb u shape.count)
 
 -- .. and `idle`
-abbrev pub owner_lawful : Shape → ℕ → ℕ → Bool → Owner → Bool
-owner_lawful shape v n inflight Nobody = not inflight
-owner_lawful shape v n inflight (Vcpu u) = inflight && may_serve shape v n u.0
+abbrev pub owner_lawful : Shape → ℕ → ℕ → Bool → Option GicVcpuId → Bool
+owner_lawful shape v n inflight None = not inflight
+owner_lawful shape v n inflight (Some u) = inflight && may_serve shape v n u.0
 
 -- `existing` and `unmasked`
-abbrev pub mask_lawful : Shape → ℕ → CpuTargetMask → Bool
-mask_lawful shape n Unset = true
-mask_lawful shape n (Mask byte) = not (is_private_id (record { 0 = n })) && ltb byte (2 ^ shape.count)
+abbrev pub mask_lawful : Shape → ℕ → Option ℕ → Bool
+mask_lawful shape n None = true
+mask_lawful shape n (Some byte) = not (is_private_id (record { 0 = n })) && ltb byte (2 ^ shape.count)
 
 -- `sgi_edge`, `sgi_low` and `sgi_unnoted`
 abbrev pub sgi_lawful : ℕ → InterruptRecord → Bool

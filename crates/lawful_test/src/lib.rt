@@ -7,10 +7,10 @@ ghost use Rattle.state.specs.Layout.{Limits, Sources};
 ghost use Rattle.state.specs.Loop.{every_below};
 ghost use Rattle.state.specs.Words.{Reached, HoldsSlot};
 ghost use Rattle.service.specs.Service.{Served, Sound};
-ghost use Rattle.lawful_test.specs.LawfulTest.{may_serve, owner_lawful, mask_lawful, sgi_lawful, record_lawful, sources_lawful, number_lawful, numbers_lawful, entry_lawful, stack_lawful, vcpu_lawful, says_same, spi_passes, spis_pass, is_lawful};
+ghost use Rattle.lawful_test.specs.LawfulTest.{may_serve, owner_lawful, mask_lawful, sgi_lawful, record_lawful, sources_lawful, number_lawful, numbers_lawful, entry_lawful, stack_lawful, vcpu_lawful, spi_passes, spis_pass, is_lawful};
 ghost use Rattle.lawful_test.specs.Quiet.{quiet};
 
-use interrupt::{CpuTargetMask, GicVcpuId, IntId, InterruptRecord, Owner, Priority};
+use interrupt::{GicVcpuId, IntId, InterruptRecord, Priority};
 use service::depth;
 use state::layout::{FIRST_SPI, record_place};
 use state::words::{ready_bit, ready_word, sgi_sources, stack_entry};
@@ -41,42 +41,46 @@ fn may_serve(shape: Shape, vcpu: GicVcpuId, intid: IntId, server: GicVcpuId) -> 
     }
 }
 
-fn owner_lawful(shape: Shape, vcpu: GicVcpuId, intid: IntId, inflight: bool, owner: Owner) -> bool
+fn owner_lawful(
+    shape: Shape,
+    vcpu: GicVcpuId,
+    intid: IntId,
+    inflight: bool,
+    owner: Option<GicVcpuId>,
+) -> bool
     ensures { result ≡ owner_lawful shape vcpu.0 intid.0 inflight owner }
 {
-    match owner {
-        Owner::Nobody => !inflight,
-        Owner::Vcpu(id) => inflight & may_serve(shape, vcpu, intid, id),
-    }
+    owner.map_or(
+        !inflight,
+        |server| inflight & may_serve(shape, vcpu, intid, server),
+    )
 }
 
-fn mask_lawful(shape: Shape, intid: IntId, mask: CpuTargetMask) -> bool
+fn mask_lawful(shape: Shape, intid: IntId, mask: Option<u8>) -> bool
     requires { Limits shape }
     ensures { result ≡ mask_lawful shape intid.0 mask }
 {
     match mask {
-        CpuTargetMask::Unset => true,
-        CpuTargetMask::Mask(byte) => !intid.is_private() & ((byte as u32) < (1u32 << shape.count)),
+        None => true,
+        Some(byte) => !intid.is_private() & ((byte as u32) < (1u32 << shape.count)),
     }
 }
 
 fn edge_lawful(intid: IntId, record: InterruptRecord) -> bool
     ensures { result ≡ sgi_lawful intid.0 «record» }
 {
-    let trigger = record.trigger;
-    !intid.is_sgi() | (!trigger.is_level() & !record.line_asserted & !record.redelivery_pending)
+    !intid.is_sgi()
+        | (!record.trigger.is_level() & !record.line_asserted & !record.redelivery_pending)
 }
 
 pub fn record_lawful(shape: Shape, vcpu: GicVcpuId, intid: IntId, record: InterruptRecord) -> bool
     requires { Limits shape }
     ensures { result ≡ record_lawful shape vcpu.0 intid.0 «record» }
 {
-    let owner = record.owner;
-    let mask = record.cpu_target_mask;
     (!record.inflight | record.active)
         & (!record.redelivery_pending | record.inflight)
-        & owner_lawful(shape, vcpu, intid, record.inflight, owner)
-        & mask_lawful(shape, intid, mask)
+        & owner_lawful(shape, vcpu, intid, record.inflight, record.owner)
+        & mask_lawful(shape, intid, record.cpu_target_mask)
         & edge_lawful(intid, record)
 }
 
@@ -113,14 +117,7 @@ fn sgis_lawful(words: &[u32], shape: Shape, vcpu: GicVcpuId) -> bool
     requires { Served shape vcpu.0 words.now }
     ensures { result ≡ every_below (number_lawful shape vcpu.0 words.now) 16 }
 {
-    let mut i = 0;
-    while i < SGIS {
-        if !sgi_lawful(words, shape, vcpu, IntId(i)) {
-            return false;
-        }
-        i += 1;
-    }
-    true
+    (0..SGIS).all(|i| sgi_lawful(words, shape, vcpu, IntId(i)))
 }
 
 fn ppi_lawful(words: &[u32], shape: Shape, vcpu: GicVcpuId, ppi: IntId) -> bool
@@ -139,21 +136,7 @@ fn ppis_lawful(words: &[u32], shape: Shape, vcpu: GicVcpuId) -> bool
     requires { Served shape vcpu.0 words.now }
     ensures { result ≡ numbers_lawful shape vcpu.0 words.now 16 16 }
 {
-    let mut i = 0;
-    while i < PPIS {
-        if !ppi_lawful(words, shape, vcpu, IntId(SGIS + i)) {
-            return false;
-        }
-        i += 1;
-    }
-    true
-}
-
-// Two answers are the same.
-fn says_same(a: bool, b: bool) -> bool
-    ensures { result ≡ says_same a b }
-{
-    if a { b } else { !b }
+    (SGIS..SGIS + PPIS).all(|i| ppi_lawful(words, shape, vcpu, IntId(i)))
 }
 
 // The records of SPIs are met as vCPU 0 meets them.
@@ -163,7 +146,7 @@ fn spi_lawful(words: &[u32], shape: Shape, spi: IntId) -> bool
 {
     let at = record_place(shape, GicVcpuId(0), spi);
     let word = words[at];
-    let exact = says_same(ready_bit(words, shape, spi), ready_word(word));
+    let exact = ready_bit(words, shape, spi) == ready_word(word);
     if is_quiet(word, 1u32 << shape.count) {
         return exact;
     }
@@ -174,15 +157,7 @@ fn spis_lawful(words: &[u32], shape: Shape) -> bool
     requires { Sound shape words.now }
     ensures { result ≡ spis_pass shape words.now (shape.limit - 32) }
 {
-    let many = shape.limit - FIRST_SPI;
-    let mut i = 0;
-    while i < many {
-        if !spi_lawful(words, shape, IntId(FIRST_SPI + i)) {
-            return false;
-        }
-        i += 1;
-    }
-    true
+    (FIRST_SPI..shape.limit).all(|i| spi_lawful(words, shape, IntId(i)))
 }
 
 pub fn entry_lawful(shape: Shape, above: Priority, entry: Entry) -> bool
@@ -198,14 +173,12 @@ fn stack_lawful(words: &[u32], shape: Shape, vcpu: GicVcpuId) -> bool
 {
     let held = depth(words, shape, vcpu) as usize;
     let mut above = Priority::IDLE;
-    let mut i = 0;
-    while i < held {
+    for i in 0..held {
         let entry = stack_entry(words, shape, vcpu, i);
         if !entry_lawful(shape, above, entry) {
             return false;
         }
         above = entry.priority;
-        i += 1;
     }
     true
 }
@@ -217,26 +190,14 @@ fn vcpu_lawful(words: &[u32], shape: Shape, vcpu: GicVcpuId) -> bool
     if !stack_lawful(words, shape, vcpu) {
         return false;
     }
-    if sgis_lawful(words, shape, vcpu) {
-        ppis_lawful(words, shape, vcpu)
-    } else {
-        false
-    }
+    sgis_lawful(words, shape, vcpu) && ppis_lawful(words, shape, vcpu)
 }
 
 fn vcpus_lawful(words: &[u32], shape: Shape) -> bool
     requires { Sound shape words.now }
     ensures { result ≡ every_below (vcpu_lawful shape words.now) shape.count }
 {
-    let count = shape.count;
-    let mut v = 0;
-    while v < count {
-        if !vcpu_lawful(words, shape, GicVcpuId(v)) {
-            return false;
-        }
-        v += 1;
-    }
-    true
+    (0..shape.count).all(|v| vcpu_lawful(words, shape, GicVcpuId(v)))
 }
 
 // Of words that refusal 6 lets pass.
@@ -244,9 +205,5 @@ pub fn is_lawful(words: &[u32], shape: Shape) -> bool
     requires { Sound shape words.now }
     ensures { result ≡ is_lawful shape words.now }
 {
-    if vcpus_lawful(words, shape) {
-        spis_lawful(words, shape)
-    } else {
-        false
-    }
+    vcpus_lawful(words, shape) && spis_lawful(words, shape)
 }

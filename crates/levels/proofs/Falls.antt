@@ -1,5 +1,6 @@
 -- An acknowledge raises no line: what a vCPU could be given after it, it could be given before; and the one that was given something can be
 -- given nothing at once, since all that waits for it is less urgent than what it now serves, or of its group. Assumes nothing.
+use Rattle.std.specs.Prelude.{Option, Some, None}
 use mathlib.Core.Path.{◌≡◌, refl, sym, ap, subst, ◌∙◌}
 use mathlib.Core.Bool.{Bool, true, false, not, cond, ◌&&◌, and-false, true≢false}
 use mathlib.Core.List.{List}
@@ -21,8 +22,6 @@ use Rattle.state.proofs.Ready.{ExactAt}
 use Rattle.state.proofs.SlotKinds.{kinds_apart, apart_record}
 use Rattle.state.proofs.Tests.{left_true, right_true}
 use Rattle.select.specs.declared.Candidate.{Candidate}
-use Rattle.select.specs.declared.Selected.{Selected}
-use Rattle.select.specs.declared.Selected.TheVariants.{Best, Nothing}
 use Rattle.select.specs.Select.{eligible, ready_at, candidate, both_on, IsBest}
 use Rattle.select.proofs.Meaning.{candidate_is_ready, best_is}
 use Rattle.service.specs.Service.{depth_at, running_of, running, Sound}
@@ -110,7 +109,7 @@ module _ (shape : Shape) (v : ℕ) (e : Candidate) (s : List ℕ) (h : Sound sha
       candidate_before = sym (λ i. eligible (value_stays PriorityMask refl i) u n (ready_stays i) (record_stays i)) ∙ chosen
 
     -- what is offered after the acknowledge
-    module _ (c : Candidate) (offered : offer shape u after ≡ Best c) where
+    module _ (c : Candidate) (offered : offer shape u after ≡ Some c) where
       best_after : IsBest shape u after shape.limit c
       best_after = best_is shape u after c (offer_is shape u after c offered).best_one
 
@@ -138,7 +137,7 @@ module _ (shape : Shape) (v : ℕ) (e : Candidate) (s : List ℕ) (h : Sound sha
           (sym on_stays ∙ (offer_is shape u after c offered).on)
 
   -- and to the one that acknowledged is nothing
-  own_nothing : (c : Candidate) → offer shape v after ≡ Best c → ⊥
+  own_nothing : (c : Candidate) → offer shape v after ≡ Some c → ⊥
   own_nothing c offered =
       let here : v < shape.count = g.exists in
       let low : e.intid.0 < shape.limit = it.numbered in
@@ -150,9 +149,9 @@ module _ (shape : Shape) (v : ℕ) (e : Candidate) (s : List ℕ) (h : Sound sha
   pub own_falls : line_level shape v after ≡ false
   own_falls = ready_number shape v after h.state.limits ∙ unfold ready in go (offer shape v after) refl
     where
-      go : (o : Selected) → offer shape v after ≡ o → (is_some o && ltb (depth_at shape v after) stack_capacity) ≡ false
-      go Nothing p = refl
-      go (Best c) p = absurd (own_nothing c p)
+      go : (o : Option Candidate) → offer shape v after ≡ o → (is_some o && ltb (depth_at shape v after) stack_capacity) ≡ false
+      go None p = refl
+      go (Some c) p = absurd (own_nothing c p)
 
   -- so nobody's line rises
   pub falls : (u : ℕ) → u < shape.count → line_level shape u after ≡ true → line_level shape u s ≡ true
@@ -167,9 +166,9 @@ module _ (shape : Shape) (v : ℕ) (e : Candidate) (s : List ℕ) (h : Sound sha
       room : (u ≡ v → ⊥) → ltb (depth_at shape u s) stack_capacity ≡ true
       room apart = ap (λ (d : ℕ). ltb d stack_capacity) (sym (given_depths shape v e s it u exists apart)) ∙ right_true (ready shape u after) (ltb (depth_at shape u after) stack_capacity) number_after
 
-      other : (b : Bool) → eqb u v ≡ b → (o : Selected) → offer shape u after ≡ o → line_level shape u s ≡ true
-      other b q Nothing p = absurd (true≢false (sym (left_true (ready shape u after) (ltb (depth_at shape u after) stack_capacity) number_after) ∙ unfold ready in ap is_some p))
-      other true q (Best c) p = absurd (own_nothing c (subst (λ (k : ℕ). offer shape k after ≡ Best c) (eqb-true u v q) p))
-      other false q (Best c) p =
+      other : (b : Bool) → eqb u v ≡ b → (o : Option Candidate) → offer shape u after ≡ o → line_level shape u s ≡ true
+      other b q None p = absurd (true≢false (sym (left_true (ready shape u after) (ltb (depth_at shape u after) stack_capacity) number_after) ∙ unfold ready in ap is_some p))
+      other true q (Some c) p = absurd (own_nothing c (subst (λ (k : ℕ). offer shape k after ≡ Some c) (eqb-true u v q) p))
+      other false q (Some c) p =
           let apart = eqb-false u v q in
           ready_number shape u s l ∙ (λ i. others_ready u exists c p apart i && room apart i)

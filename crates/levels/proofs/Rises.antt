@@ -1,5 +1,6 @@
 -- The level of a vCPU's line is whether its IAR would give a number, and wake sets are the rises of the lines: of every call but those that
 -- start a controller anew, reads among them, in any words at all; and exactly these from every controller. Assumes nothing.
+use Rattle.std.specs.Prelude.{Option, Some, None}
 use mathlib.Core.Path.{◌≡◌, refl, sym, ap, ◌∙◌}
 use mathlib.Core.Bool.{Bool, true, false, not, cond, ◌&&◌, and-false, and_assoc}
 use mathlib.Core.List.{List}
@@ -14,8 +15,6 @@ use Rattle.register.specs.declared.frame.AccessWidth.TheVariants.{Dword}
 use Rattle.register.specs.declared.frame.Refusal.TheVariants.{Vcpu, FullStack}
 use Rattle.register.proofs.Named.{iar_at, aiar_at}
 use Rattle.state.specs.declared.layout.Shape.{Shape}
-use Rattle.state.specs.declared.lent.Lent.{Lent}
-use Rattle.state.specs.declared.lent.Lent.TheVariants as lent
 use Rattle.state.specs.Fresh.{fresh}
 use Rattle.state.specs.Layout.{DistributorControl, Room}
 use Rattle.state.specs.Lent.{shaped, validated}
@@ -23,8 +22,6 @@ use Rattle.state.specs.Words.{changed, kept_distributor_control, enable_bit, ena
 use Rattle.state.proofs.Starting.{fresh_length, fresh_word}
 use Rattle.select.specs.declared.Candidate.{Candidate}
 use Rattle.service.proofs.Soundness.{validated_sound}
-use Rattle.acknowledge.specs.declared.Read.{Read}
-use Rattle.acknowledge.specs.declared.Read.TheVariants.{Value, StackFull}
 use Rattle.acknowledge.specs.Acknowledge.{offer, source_of, given, answered, acknowledge, acknowledged}
 use Rattle.moves.specs.Moves.{Giving}
 use Rattle.moves.proofs.Acknowledges.{each_acknowledge}
@@ -51,12 +48,12 @@ unfolding read_v2_cpu_interface
 aiar_is_iar v s = simp (iar_at, aiar_at)
 
 -- while the Distributor is off nobody is offered anything
-off_gives_nothing : (shape : Shape) (v : ℕ) (s : List ℕ) → enabled_at shape s ≡ false → acknowledge shape v s ≡ Value 1023
+off_gives_nothing : (shape : Shape) (v : ℕ) (s : List ℕ) → enabled_at shape s ≡ false → acknowledge shape v s ≡ Some 1023
 unfolding answered offer
 off_gives_nothing shape v s off = simp off
 
 -- the two calls, in words that pass the test of refusal 6
-module _ (shape : Shape) (s : List ℕ) (h : validated s ≡ lent.Sound shape) (v : ℕ) where
+module _ (shape : Shape) (s : List ℕ) (h : validated s ≡ Some shape) (v : ℕ) where
   level_call : called (IrqLevel v) s ≡ looked_up true shape v s (gave (bit_of (line_level shape v s)) s)
   unfolding irq_level
   level_call = simp h
@@ -86,10 +83,10 @@ module _ (shape : Shape) (s : List ℕ) (h : validated s ≡ lent.Sound shape) (
 gives : Outcome → Bool
 gives o = eqb o.refusal 0 && not (eqb o.value 1023)
 
-answer_gives : (a : Read) (s r : List ℕ) → gives_number a ≡ gives (read_answer a s r)
+answer_gives : (a : Option ℕ) (s r : List ℕ) → gives_number a ≡ gives (read_answer a s r)
 unfolding gives
-answer_gives (Value x) s r = refl
-answer_gives StackFull s r = refl
+answer_gives (Some x) s r = refl
+answer_gives None s r = refl
 
 -- "a read of a level-1 vCPU's IAR gives a number (and of a level-0 one's does not)": of any vCPU's number, in any words
 pub level_is_iar : (v : ℕ) (s : List ℕ) → told_level v s ≡ bit_of (hands_out (iar_read v) (called (iar_read v) s))
@@ -101,7 +98,7 @@ level_is_iar v s = rw iar_at (go (validated s) refl)
     past shape beyond true e = simp (le-leb shape.count v beyond)
     past shape beyond false e = simp (off_gives_nothing shape v s e)
 
-    at : (shape : Shape) → validated s ≡ lent.Sound shape → (b : Bool) → leb shape.count v ≡ b → told_level v s ≡ bit_of (gives (called (iar_read v) s))
+    at : (shape : Shape) → validated s ≡ Some shape → (b : Bool) → leb shape.count v ≡ b → told_level v s ≡ bit_of (gives (called (iar_read v) s))
     at shape h true e =
         let beyond = leb-true shape.count v e in
         level_past shape s h v beyond ∙ ap bit_of (sym (ap gives (iar_call shape s h v) ∙ past shape beyond (enabled_at shape s) refl))
@@ -109,10 +106,10 @@ level_is_iar v s = rw iar_at (go (validated s) refl)
         let exists = leb-false shape.count v e in
         level_there shape s h v exists ∙ ap bit_of (answer_gives (acknowledge shape v s) s (acknowledged shape v s) ∙ sym (ap gives (iar_there shape s h v exists)))
 
-    go : (l : Lent) → validated s ≡ l → told_level v s ≡ bit_of (gives (called (iar_read v) s))
-    go lent.Broken h =
+    go : (l : Option Shape) → validated s ≡ l → told_level v s ≡ bit_of (gives (called (iar_read v) s))
+    go None h =
         ap (λ (o : Outcome). o.value) (broken_call (IrqLevel v) refl s h).0 ∙ ap (λ (o : Outcome). bit_of (gives o)) (sym (broken_call (iar_read v) refl s h).0)
-    go (lent.Sound shape) h = at shape h (leb shape.count v) refl
+    go (Some shape) h = at shape h (leb shape.count v) refl
 
 -- nothing changes, and no line rises
 still : (x : ℕ) → (eqb x 0 && eqb x 1) ≡ false
@@ -123,15 +120,15 @@ still x = go (eqb x 0) refl
     go false e = refl
 
 -- quiet before: its IAR gave 1023, so that its level was 0, and it did not lack room
-quiet_is : (a : Read) (s r : List ℕ) → is_spurious a ≡ (not (eqb (read_answer a s r).refusal 7) && eqb (bit_of (gives_number a)) 0)
-quiet_is (Value x) s r = go (eqb x 1023)
+quiet_is : (a : Option ℕ) (s r : List ℕ) → is_spurious a ≡ (not (eqb (read_answer a s r).refusal 7) && eqb (bit_of (gives_number a)) 0)
+quiet_is (Some x) s r = go (eqb x 1023)
   where
     go : (b : Bool) → b ≡ eqb (bit_of (not b)) 0
     go true = refl
     go false = refl
-quiet_is StackFull s r = refl
+quiet_is None s r = refl
 
-module _ (shape : Shape) (s : List ℕ) (h : validated s ≡ lent.Sound shape) (v : ℕ) where
+module _ (shape : Shape) (s : List ℕ) (h : validated s ≡ Some shape) (v : ℕ) where
   -- bit v of a wake set
   bit_there : (r : List ℕ) → v < shape.count → wake_set shape s r / 2 ^ v % 2 ≡ bit_of (woken shape s r v)
   unfolding wake_set
@@ -144,7 +141,7 @@ module _ (shape : Shape) (s : List ℕ) (h : validated s ≡ lent.Sound shape) (
 
   -- a call of this outcome, which leaves words that pass the test too
   abbrev Right : Outcome → Type 0
-  Right o = validated o.state ≡ lent.Sound shape → wake_bit v o ≡ bit_of (not (lacks_room v s) && rises v s o.state)
+  Right o = validated o.state ≡ Some shape → wake_bit v o ≡ bit_of (not (lacks_room v s) && rises v s o.state)
 
   -- it wakes nobody and raises no line
   silent : (o : Outcome) → o.wake ≡ 0 → rises v s o.state ≡ false → Right o
@@ -222,7 +219,7 @@ wakes_are_rises c e s h v =
 pub an_acknowledge_lowers_its_line : (v : ℕ) (s : List ℕ) → told_level v (called (iar_read v) s).state ≡ 0
 an_acknowledge_lowers_its_line v s = go (validated s) refl
   where
-    there : (shape : Shape) → validated s ≡ lent.Sound shape → v < shape.count → told_level v (called (iar_read v) s).state ≡ 0
+    there : (shape : Shape) → validated s ≡ Some shape → v < shape.count → told_level v (called (iar_read v) s).state ≡ 0
     there shape h exists =
         level_there shape (called (iar_read v) s).state (call_valid shape s h (iar_read v) refl) v exists
         ∙ ap bit_of (ap (λ (o : Outcome). line_level shape v o.state) (iar_there shape s h v exists) ∙ low)
@@ -235,9 +232,9 @@ an_acknowledge_lowers_its_line v s = go (validated s) refl
             (λ e g q. own_falls shape v e s (validated_sound shape s h) g)
             refl
 
-    go : (l : Lent) → validated s ≡ l → told_level v (called (iar_read v) s).state ≡ 0
-    go lent.Broken h = ap (λ (o : Outcome). told_level v o.state) (broken_call (iar_read v) refl s h).0 ∙ ap (λ (o : Outcome). o.value) (broken_call (IrqLevel v) refl s h).0
-    go (lent.Sound shape) h = by (leb shape.count v) refl
+    go : (l : Option Shape) → validated s ≡ l → told_level v (called (iar_read v) s).state ≡ 0
+    go None h = ap (λ (o : Outcome). told_level v o.state) (broken_call (iar_read v) refl s h).0 ∙ ap (λ (o : Outcome). o.value) (broken_call (IrqLevel v) refl s h).0
+    go (Some shape) h = by (leb shape.count v) refl
       where
         by : (b : Bool) → leb shape.count v ≡ b → told_level v (called (iar_read v) s).state ≡ 0
         by true e = level_past shape (called (iar_read v) s).state (call_valid shape s h (iar_read v) refl) v (leb-true shape.count v e)
@@ -260,4 +257,4 @@ a_fresh_line_is_low count limit s accepted v =
     go h true e = level_past shape (fresh shape s) (valid shape (fresh shape s) h) v (leb-true shape.count v e)
     go h false e =
         level_there shape (fresh shape s) (valid shape (fresh shape s) h) v (leb-false shape.count v e)
-        ∙ ap (λ (a : Read). bit_of (gives_number a)) (off_gives_nothing shape v (fresh shape s) (off h.lawful.in_range.state))
+        ∙ ap (λ (a : Option ℕ). bit_of (gives_number a)) (off_gives_nothing shape v (fresh shape s) (off h.lawful.in_range.state))

@@ -7,16 +7,13 @@ use native.Mathlib.Omega.{arith}
 use lib.Pow.{pow_pos}
 use lib.Dec.{eqb, leb, ltb}
 use borrow.Author.Tests.{lt-ltb, le-ltb, ltb-true, ltb-false, le-leb, lt-leb, leb-false, eqb-true, eqb-false, ne_eqb}
-use Rattle.interrupt.specs.declared.record.CpuTargetMask.TheVariants.{Unset, Mask}
-use Rattle.interrupt.specs.declared.record.Owner.TheVariants.{Nobody, Vcpu}
 use Rattle.word.specs.Word.{flag, owner_of}
 use Rattle.state.specs.declared.layout.Shape.{Shape}
 use Rattle.lawful_test.specs.LawfulTest.{implied, owner_lawful, mask_lawful, record_lawful}
-use Rattle.groups.specs.declared.Found.TheVariants.{Number}
-use Rattle.groups.specs.declared.Found.TheVariants as found
+use Rattle.std.specs.Prelude.{Option, Some, None}
 use Rattle.groups.specs.Groups.{found_at}
-use Rattle.load.specs.declared.reading.FoundRecord.TheVariants.{Read, Refused}
-use Rattle.load.specs.Reading.{number_up_to, mask_from, spi_rest, rest_at, record_from, spi_lawful, record_found}
+use Rattle.load.specs.declared.reading.RecordAndSources.{RecordAndSources}
+use Rattle.load.specs.Reading.{number_up_to, mask_from, record_and_sources, spi_rest, rest_at, record_from, spi_lawful, record_found}
 use Rattle.load.proofs.Numbers.{within, small_found}
 
 -- the vCPU that an owner's number is of is below the count
@@ -59,7 +56,7 @@ module _ (shape : Shape) (n : ℕ) (high : 32 ≤ n) where
   mask_lawful_lem : (m : ℕ) → m ≤ 256 → mask_lawful shape n (mask_from m) ≡ ltb (m % 256) (2 ^ shape.count)
   mask_lawful_lem m small = go (eqb m 256) refl
     where
-      go : (b : Bool) → eqb m 256 ≡ b → mask_lawful shape n (cond b Unset (Mask m)) ≡ ltb (m % 256) (2 ^ shape.count)
+      go : (b : Bool) → eqb m 256 ≡ b → mask_lawful shape n (cond b None (Some m)) ≡ ltb (m % 256) (2 ^ shape.count)
       go true p =
           let e : m ≡ 256 = eqb-true m 256 p in
           let some = pow_pos shape.count in
@@ -83,7 +80,7 @@ module _ (shape : Shape) (n : ℕ) (high : 32 ≤ n) where
   spi_lawful_lem f p o m small = simp (le-ltb n 16 (omega arith), mask_lawful_lem m small) (go (eqb o 0) refl)
     where
       go : (b : Bool) → eqb o 0 ≡ b
-          → (implied (flag 3 f) (flag 2 f) && implied (flag 4 f) (flag 3 f) && owner_lawful shape 0 n (flag 3 f) (cond b Nobody (Vcpu (record { 0 = o - 1 }))) && ltb (m % 256) (2 ^ shape.count) && true) && true
+          → (implied (flag 3 f) (flag 2 f) && implied (flag 4 f) (flag 3 f) && owner_lawful shape 0 n (flag 3 f) (cond b None (Some (record { 0 = o - 1 }))) && ltb (m % 256) (2 ^ shape.count) && true) && true
           ≡ cond b (not (flag 3 f) && not (flag 4 f)) (flag 3 f && flag 2 f && leb o shape.count) && ltb (m % 256) (2 ^ shape.count)
       go true e = idle (flag 2 f) (flag 3 f) (flag 4 f) (ltb (m % 256) (2 ^ shape.count))
       go false e =
@@ -91,36 +88,36 @@ module _ (shape : Shape) (n : ℕ) (high : 32 ≤ n) where
           (charged (flag 2 f) (flag 3 f) (flag 4 f) (ltb (m % 256) (2 ^ shape.count)) (leb o shape.count))
 
   -- what is found at one number after another: an owner above 8 is none, and it is no lawful one either
-  module _ (image : List ℕ) (at f a p b : ℕ) (flags : number_up_to 127 image at ≡ Number f a) (priority : number_up_to 255 image a ≡ Number p b) where
-    no_owner : number_up_to 8 image b ≡ found.Refused → record_found shape 0 n image at ≡ Refused
+  module _ (image : List ℕ) (at f a p b : ℕ) (flags : number_up_to 127 image at ≡ Some (f, a)) (priority : number_up_to 255 image a ≡ Some (p, b)) where
+    no_owner : number_up_to 8 image b ≡ None → record_found shape 0 n image at ≡ None
     unfolding record_found rest_at spi_rest
     no_owner owner = simp (flags, priority, le-ltb n 16 (omega arith), le-ltb n 32 high, owner)
 
-    pub spi_no_owner : found_at 1 image b ≡ found.Refused → record_found shape 0 n image at ≡ Refused
+    pub spi_no_owner : found_at 1 image b ≡ None → record_found shape 0 n image at ≡ None
     spi_no_owner owner = no_owner (small_found 8 image b (omega arith) ∙ simp owner)
 
-    module _ (o c : ℕ) (owner : found_at 1 image b ≡ Number o c) where
-      pub spi_no_mask : number_up_to 256 image c ≡ found.Refused → record_found shape 0 n image at ≡ Refused
+    module _ (o c : ℕ) (owner : found_at 1 image b ≡ Some (o, c)) where
+      pub spi_no_mask : number_up_to 256 image c ≡ None → record_found shape 0 n image at ≡ None
       unfolding record_found rest_at spi_rest
       spi_no_mask mask = go (leb o 8) refl
         where
-          go : (x : Bool) → leb o 8 ≡ x → record_found shape 0 n image at ≡ Refused
+          go : (x : Bool) → leb o 8 ≡ x → record_found shape 0 n image at ≡ None
           go true e =
-              let own : number_up_to 8 image b ≡ Number o c = small_found 8 image b (omega arith) ∙ simp (owner, e) in
+              let own : number_up_to 8 image b ≡ Some (o, c) = small_found 8 image b (omega arith) ∙ simp (owner, e) in
               simp (flags, priority, le-ltb n 16 (omega arith), le-ltb n 32 high, own, mask)
           go false e = no_owner (small_found 8 image b (omega arith) ∙ simp (owner, e))
 
-      pub spi_read : (m next : ℕ) → shape.count ≤ 8 → number_up_to 256 image c ≡ Number m next
-          → record_found shape 0 n image at ≡ cond (spi_lawful shape f o m) (Read (record_from f p (owner_of o) (mask_from m)) 0 next) Refused
+      pub spi_read : (m next : ℕ) → shape.count ≤ 8 → number_up_to 256 image c ≡ Some (m, next)
+          → record_found shape 0 n image at ≡ cond {A = Option (RecordAndSources × ℕ)} (spi_lawful shape f o m) (Some (record_and_sources (record_from f p (owner_of o) (mask_from m)) 0, next)) None
       unfolding record_found rest_at spi_rest
       spi_read m next few mask = go (leb o 8) refl
         where
-          go : (x : Bool) → leb o 8 ≡ x → record_found shape 0 n image at ≡ cond (spi_lawful shape f o m) (Read (record_from f p (owner_of o) (mask_from m)) 0 next) Refused
+          go : (x : Bool) → leb o 8 ≡ x → record_found shape 0 n image at ≡ cond {A = Option (RecordAndSources × ℕ)} (spi_lawful shape f o m) (Some (record_and_sources (record_from f p (owner_of o) (mask_from m)) 0, next)) None
           go true e =
-              let own : number_up_to 8 image b ≡ Number o c = small_found 8 image b (omega arith) ∙ simp (owner, e) in
+              let own : number_up_to 8 image b ≡ Some (o, c) = small_found 8 image b (omega arith) ∙ simp (owner, e) in
               let small = within 256 image c (number_up_to 256 image c) m next refl mask in
               simp (flags, priority, le-ltb n 16 (omega arith), le-ltb n 32 high, own, mask)
-              (ap (λ (x : Bool). cond x (Read (record_from f p (owner_of o) (mask_from m)) 0 next) Refused) (spi_lawful_lem f p o m small))
+              (ap (λ (x : Bool). cond {A = Option (RecordAndSources × ℕ)} x (Some (record_and_sources (record_from f p (owner_of o) (mask_from m)) 0, next)) None) (spi_lawful_lem f p o m small))
           go false e =
               let big = leb-false o 8 e in
               let off : spi_lawful shape f o m ≡ false = no_such f o m (lt-leb o shape.count (omega arith)) (omega arith) in

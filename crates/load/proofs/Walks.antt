@@ -6,17 +6,14 @@ use Prim.Native.Nat.{ℕ, zero, suc, ◌+◌, ◌-◌, ◌≤◌, ◌<◌}
 use native.Mathlib.Nat.{add-zero, add-suc}
 use native.Mathlib.Numerals.{add-one}
 use native.Mathlib.Omega.{arith}
-use lib.ListN.{length}
 use borrow.Author.Tests.{le-leb, lt-leb}
 use Rattle.word.proofs.Cases.{last_or}
 use Rattle.state.specs.declared.layout.Shape.{Shape}
 use Rattle.state.specs.declared.words.Entry.{Entry}
-use Rattle.state.specs.Layout.{Room}
 use Rattle.state.specs.Loop.{up_to}
 use Rattle.state.specs.Words.{with_entry, without_entry}
 use Rattle.state.proofs.Steps.{up_idle}
-use Rattle.load.specs.declared.reading.FoundEntry.TheVariants as entry
-use Rattle.load.specs.declared.walking.Place.TheVariants.{Refused}
+use Rattle.std.specs.Prelude.{Some, None}
 use Rattle.load.specs.Reading.{entry_found}
 use Rattle.load.specs.Walking.{spot, lost, entry_in, entry_spot, entry_stored, entries_stored, cleared_past, walked}
 
@@ -28,10 +25,6 @@ cond_same false x = refl
 pub stored_on : (b : Bool) (f : List ℕ → List ℕ) (w after x y start : List ℕ) → w ≡ cond b x start → after ≡ cond b (f w) w → y ≡ f x → after ≡ cond b y start
 stored_on true f w after x y start so_far e step = e ∙ (ap f so_far ∙ sym step)
 stored_on false f w after x y start so_far e step = e ∙ so_far
-
--- words of the same length have the same room
-pub still_room : (shape : Shape) (stores : Bool) (s r : List ℕ) → length r ≡ length s → (stores ≡ true → Room shape s) → stores ≡ true → Room shape r
-still_room shape stores s r same room e = let h = room e in let enough = h.room in record { limits = h.limits; room = omega arith }
 
 -- steps after steps
 pub up_plus : (f g : ℕ → List ℕ → List ℕ) (m n : ℕ) (s : List ℕ) → ((i : ℕ) (r : List ℕ) → f (m + i) r ≡ g i r) → up_to f (m + n) s ≡ up_to g n (up_to f m s)
@@ -51,12 +44,6 @@ last_step : (f : ℕ → List ℕ → List ℕ) (s : List ℕ) (i n : ℕ) → i
 unfolding up_to
 last_step f s i n b idle = up_idle f s n (suc i) b (λ j r a _. idle j r a)
 
-pub past_cleared : (shape : Shape) (v d i : ℕ) (s r : List ℕ) → d ≤ i → r ≡ without_entry shape v i s → r ≡ cleared_past shape v d i s
-past_cleared shape v d i s r h e = simp (le-leb d i h) e
-
-pub past_kept : (shape : Shape) (v d i : ℕ) (s : List ℕ) → i < d → s ≡ cleared_past shape v d i s
-past_kept shape v d i s h = simp (lt-leb d i h)
-
 -- entries below the depth are passed over, and those from it up are cleared
 pub cleared_by_test : (shape : Shape) (v d n : ℕ) (s : List ℕ) → d ≤ n → up_to (cleared_past shape v d) n s ≡ up_to (λ i. without_entry shape v (d + i)) (n - d) s
 unfolding up_to
@@ -71,17 +58,17 @@ module _ (shape : Shape) (image : List ℕ) (start : ℕ) where
   unfolding entry_spot
   lost_stays i n h e = onward (λ j. entry_spot shape image start j ≡ lost) (λ j p. simp p) n i h e
 
-  pub refused_stays : (k n : ℕ) → k ≤ n → walked shape image start k ≡ Refused → walked shape image start n ≡ Refused
+  pub refused_stays : (k n : ℕ) → k ≤ n → walked shape image start k ≡ None → walked shape image start n ≡ None
   unfolding walked
-  refused_stays k n h e = onward (λ j. walked shape image start j ≡ Refused) (λ j p. simp p) n k h e
+  refused_stays k n h e = onward (λ j. walked shape image start j ≡ None) (λ j p. simp p) n k h e
 
   module _ (v i at above : ℕ) (s : List ℕ) (here : entry_spot shape image start i ≡ spot at above) where
-    pub entry_taken : (e : Entry) (next : ℕ) → entry_found shape above image at ≡ entry.Read e next
+    pub entry_taken : (e : Entry) (next : ℕ) → entry_found shape above image at ≡ Some (e, next)
         → (entry_spot shape image start (i + 1) ≡ spot next e.priority.0) × (entries_stored shape image v start (i + 1) s ≡ with_entry shape v i e (entries_stored shape image v start i s))
     unfolding entry_spot entries_stored up_to
     entry_taken e next found = (rw add-one (simp (here, found)), rw add-one (simp (here, found)))
 
-    pub entry_refused : (d : ℕ) → i < d → entry_found shape above image at ≡ entry.Refused
+    pub entry_refused : (d : ℕ) → i < d → entry_found shape above image at ≡ None
         → (entry_spot shape image start d ≡ lost) × (entries_stored shape image v start d s ≡ entries_stored shape image v start i s)
     unfolding entry_spot entries_stored
     entry_refused d b found =

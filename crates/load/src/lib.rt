@@ -5,8 +5,8 @@ ghost use Rattle.load.specs.Load.{LoadPromise, ImageShapePromise, stored};
 ghost use Rattle.std.specs.Prelude.{◌≡◌};
 ghost use Rattle.state.specs.Layout.{Room};
 
-use crate::opening::{FoundShape, Opened, open, shape_at_start};
-use crate::walking::{Place, take_parts};
+use crate::opening::{open, shape_at_start};
+use crate::walking::take_parts;
 use answer::{Answer, gave};
 use register::Refusal;
 use state::Shape;
@@ -30,36 +30,27 @@ fn store(words: &mut [u32], image: &[u8], shape: Shape, control: u32, start: usi
     take_parts(image, start, words, shape, true);
 }
 
+#[tactic(auto, using(crate::proofs::Openings::opened_limits), unfolding(crate::specs::Load::load))]
 pub fn load(words: &mut [u32], image: &[u8]) -> Answer
     ensures { LoadPromise image.now words.old result words.new }
 {
-    let Opened::Read {
-        shape,
-        control,
-        next: start,
-    } = open(image)
-    else {
-        return Answer::Refused(Refusal::Unlawful);
-    };
-    let Place::At(end) = take_parts(image, start, words, shape, false) else {
-        return Answer::Refused(Refusal::Unlawful);
-    };
+    let (shape, control, start) = open(image).ok_or(Refusal::Unlawful)?;
+    let end = take_parts(image, start, words, shape, false).ok_or(Refusal::Unlawful)?;
     if end < image.len() {
-        return Answer::Refused(Refusal::Unlawful);
+        return Err(Refusal::Unlawful);
     }
     if words.len() < shape.size() {
-        return Answer::Refused(Refusal::ShortState);
+        return Err(Refusal::ShortState);
     }
     store(words, image, shape, control, start);
     gave(0)
 }
 
 // The count and limit that an image states: the count in the low half of the value, the limit above it.
+#[tactic(auto, using(crate::proofs::Openings::found_limits), unfolding(crate::specs::Load::shape_stated))]
 pub fn image_shape(image: &[u8]) -> Answer
     ensures { ImageShapePromise image.now result image.now }
 {
-    let FoundShape::Read { shape, next: _ } = shape_at_start(image) else {
-        return Answer::Refused(Refusal::Unlawful);
-    };
+    let (shape, _next) = shape_at_start(image).ok_or(Refusal::Unlawful)?;
     gave(shape.count as u32 + LIMIT * shape.limit)
 }

@@ -4,12 +4,11 @@ ghost use Rattle.groups.specs.Groups.{found_at};
 ghost use Rattle.state.specs.Layout.{Limits};
 ghost use Rattle.load.specs.Reading.{number_up_to, register_found, registers_at, entry_found, own_owner, mask_from, sgi_rest, rest_at, record_from, lawful_number, record_if_lawful, flight_lawful, spi_lawful, record_found};
 
-use groups::Found;
-use interrupt::{CpuTargetMask, GicVcpuId, IntId, InterruptRecord, Owner, Priority};
+use interrupt::{GicVcpuId, IntId, InterruptRecord, Priority};
 use lawful_test::{entry_lawful, record_lawful, sources_lawful};
 use reader::read;
 use state::{Entry, InterfaceValue, Shape};
-use word::{owner_of, trigger_of};
+use word::{decode, owner_of};
 
 // No number of an image needs more.
 const GROUPS: u32 = 2;
@@ -18,178 +17,119 @@ const GROUPS: u32 = 2;
 const UNSET: u32 = 256;
 
 #[derive(Clone, Copy)]
-pub enum FoundRegisters {
-    Read {
-        control: u32,
-        mask: u32,
-        point: u32,
-        next: usize,
-    },
-    Refused,
-}
-
-#[derive(Clone, Copy)]
-pub enum FoundEntry {
-    Read { entry: Entry, next: usize },
-    Refused,
+pub struct InterfaceRegisters {
+    pub control: u32,
+    pub mask: u32,
+    pub point: u32,
 }
 
 // What follows a private record's flags and priority.
 #[derive(Clone, Copy)]
-pub enum FoundRest {
-    Read {
-        owner: Owner,
-        mask: CpuTargetMask,
-        sources: u8,
-        next: usize,
-    },
-    Refused,
+pub struct RecordRest {
+    pub owner: Option<GicVcpuId>,
+    pub mask: Option<u8>,
+    pub sources: u8,
 }
 
+// The sources are of an SGI alone.
 #[derive(Clone, Copy)]
-pub enum FoundRecord {
-    Read {
-        record: InterruptRecord,
-        sources: u8,
-        next: usize,
-    },
-    Refused,
+pub struct RecordAndSources {
+    pub record: InterruptRecord,
+    pub sources: u8,
 }
 
-pub fn number(image: &[u8], at: usize) -> Found
+// What is read from a place on comes with the place after it.
+pub fn number(image: &[u8], at: usize) -> Option<(u32, usize)>
     ensures { result ≡ found_at 2 image.now at }
 {
     read(image, at, GROUPS)
 }
 
-pub fn number_up_to(image: &[u8], at: usize, most: u32) -> Found
+pub fn number_up_to(image: &[u8], at: usize, most: u32) -> Option<(u32, usize)>
     ensures { result ≡ number_up_to most image.now at }
 {
-    let Found::Number { value, next } = number(image, at) else {
-        return Found::Refused;
-    };
-    if value <= most {
-        Found::Number { value, next }
-    } else {
-        Found::Refused
-    }
+    let (value, next) = number(image, at)?;
+    (value <= most).then_some((value, next))
 }
 
-fn register_at(image: &[u8], at: usize, register: InterfaceValue) -> Found
+fn register_at(image: &[u8], at: usize, register: InterfaceValue) -> Option<(u32, usize)>
     ensures { result ≡ register_found register image.now at }
 {
-    let Found::Number { value, next } = number(image, at) else {
-        return Found::Refused;
-    };
-    if register.kept(value) == value {
-        Found::Number { value, next }
-    } else {
-        Found::Refused
-    }
+    let (value, next) = number(image, at)?;
+    (register.kept(value) == value).then_some((value, next))
 }
 
-pub fn registers_at(image: &[u8], at: usize) -> FoundRegisters
+#[tactic(auto, unfolding(crate::specs::Reading::registers_at))]
+pub fn registers_at(image: &[u8], at: usize) -> Option<(InterfaceRegisters, usize)>
     ensures { result ≡ registers_at image.now at }
 {
-    let Found::Number {
-        value: control,
-        next: a,
-    } = register_at(image, at, InterfaceValue::Control)
-    else {
-        return FoundRegisters::Refused;
-    };
-    let Found::Number {
-        value: mask,
-        next: b,
-    } = register_at(image, a, InterfaceValue::PriorityMask)
-    else {
-        return FoundRegisters::Refused;
-    };
-    let Found::Number { value: point, next } = register_at(image, b, InterfaceValue::BinaryPoint)
-    else {
-        return FoundRegisters::Refused;
-    };
-    FoundRegisters::Read {
+    let (control, a) = register_at(image, at, InterfaceValue::Control)?;
+    let (mask, b) = register_at(image, a, InterfaceValue::PriorityMask)?;
+    let (point, next) = register_at(image, b, InterfaceValue::BinaryPoint)?;
+    let registers = InterfaceRegisters {
         control,
         mask,
         point,
-        next,
-    }
+    };
+    Some((registers, next))
 }
 
 // Each entry lies below the one before it.
-pub fn entry_at(image: &[u8], at: usize, shape: Shape, above: Priority) -> FoundEntry
+#[tactic(auto, unfolding(crate::specs::Reading::entry_found))]
+pub fn entry_at(image: &[u8], at: usize, shape: Shape, above: Priority) -> Option<(Entry, usize)>
     ensures { result ≡ entry_found shape above.0 image.now at }
 {
-    let Found::Number {
-        value: number,
-        next: a,
-    } = number(image, at)
-    else {
-        return FoundEntry::Refused;
-    };
-    let Found::Number {
-        value: priority,
-        next,
-    } = number_up_to(image, a, 255)
-    else {
-        return FoundEntry::Refused;
-    };
+    let (number, a) = number(image, at)?;
+    let (priority, next) = number_up_to(image, a, 255)?;
     let entry = Entry {
         intid: IntId(number),
         priority: Priority::new(priority as u8),
     };
-    if entry_lawful(shape, above, entry) {
-        FoundEntry::Read { entry, next }
-    } else {
-        FoundEntry::Refused
-    }
+    entry_lawful(shape, above, entry).then_some((entry, next))
 }
 
 // What has one group is below 128.
-fn flags_at(image: &[u8], at: usize) -> Found
+fn flags_at(image: &[u8], at: usize) -> Option<(u32, usize)>
     ensures { result ≡ number_up_to 127 image.now at }
 {
     read(image, at, 1)
 }
 
 // A private record in flight is its own vCPU's.
-fn own_owner(vcpu: GicVcpuId, inflight: bool) -> Owner
+fn own_owner(vcpu: GicVcpuId, inflight: bool) -> Option<GicVcpuId>
     ensures { result ≡ own_owner vcpu.0 inflight }
 {
-    if inflight {
-        Owner::Vcpu(vcpu)
-    } else {
-        Owner::Nobody
-    }
+    inflight.then_some(vcpu)
 }
 
-fn mask_from(number: u32) -> CpuTargetMask
+fn mask_from(number: u32) -> Option<u8>
     requires { number ≤ 256 }
     ensures { result ≡ mask_from number }
 {
-    if number == UNSET {
-        CpuTargetMask::Unset
-    } else {
-        CpuTargetMask::Mask(number as u8)
-    }
+    u8::try_from(number).ok()
 }
 
-fn sgi_rest(image: &[u8], at: usize, owner: Owner) -> FoundRest
+#[tactic(auto, unfolding(crate::specs::Reading::sgi_rest))]
+fn sgi_rest(image: &[u8], at: usize, owner: Option<GicVcpuId>) -> Option<(RecordRest, usize)>
     ensures { result ≡ sgi_rest owner image.now at }
 {
-    let Found::Number { value, next } = number_up_to(image, at, 255) else {
-        return FoundRest::Refused;
-    };
-    FoundRest::Read {
+    let (value, next) = number_up_to(image, at, 255)?;
+    let rest = RecordRest {
         owner,
-        mask: CpuTargetMask::Unset,
+        mask: None,
         sources: value as u8,
-        next,
-    }
+    };
+    Some((rest, next))
 }
 
-fn rest_at(image: &[u8], at: usize, vcpu: GicVcpuId, intid: IntId, inflight: bool) -> FoundRest
+#[tactic(auto, unfolding(crate::specs::Reading::rest_at))]
+fn rest_at(
+    image: &[u8],
+    at: usize,
+    vcpu: GicVcpuId,
+    intid: IntId,
+    inflight: bool,
+) -> Option<(RecordRest, usize)>
     requires { intid.0 < 32 }
     ensures { result ≡ rest_at vcpu.0 intid.0 inflight image.now at }
 {
@@ -197,28 +137,28 @@ fn rest_at(image: &[u8], at: usize, vcpu: GicVcpuId, intid: IntId, inflight: boo
     if intid.is_sgi() {
         return sgi_rest(image, at, owner);
     }
-    FoundRest::Read {
+    let rest = RecordRest {
         owner,
-        mask: CpuTargetMask::Unset,
+        mask: None,
         sources: 0,
-        next: at,
-    }
+    };
+    Some((rest, at))
 }
 
-fn record_from(flags: u32, priority: u8, owner: Owner, mask: CpuTargetMask) -> InterruptRecord
+#[tactic(auto, unfolding(word::specs::Word::record_of))]
+fn record_from(
+    flags: u32,
+    priority: u8,
+    owner: Option<GicVcpuId>,
+    mask: Option<u8>,
+) -> InterruptRecord
     ensures { result ≡ record_from flags priority owner mask }
 {
     InterruptRecord {
-        enabled: flags % 2 == 1,
-        pending: flags / 2 % 2 == 1,
-        active: flags / 4 % 2 == 1,
-        inflight: flags / 8 % 2 == 1,
-        redelivery_pending: flags / 16 % 2 == 1,
-        line_asserted: flags / 32 % 2 == 1,
         priority: Priority::new(priority),
-        trigger: trigger_of(flags / 64 % 2 == 1),
         cpu_target_mask: mask,
         owner,
+        ..decode(flags)
     }
 }
 
@@ -243,56 +183,32 @@ fn lawful_record(
     record: InterruptRecord,
     sources: u8,
     next: usize,
-) -> FoundRecord
+) -> Option<(RecordAndSources, usize)>
     requires { Limits shape }
     ensures { result ≡ record_if_lawful shape vcpu.0 intid.0 «record» sources next }
 {
-    if number_lawful(shape, vcpu, intid, record, sources) {
-        FoundRecord::Read {
-            record,
-            sources,
-            next,
-        }
-    } else {
-        FoundRecord::Refused
-    }
+    number_lawful(shape, vcpu, intid, record, sources).then_some((
+        RecordAndSources { record, sources },
+        next,
+    ))
 }
 
+#[tactic(auto, unfolding(crate::specs::Reading::record_found))]
 pub fn private_at(
     image: &[u8],
     at: usize,
     shape: Shape,
     vcpu: GicVcpuId,
     intid: IntId,
-) -> FoundRecord
+) -> Option<(RecordAndSources, usize)>
     requires { (Limits shape) × (intid.0 < 32) }
     ensures { result ≡ record_found shape vcpu.0 intid.0 image.now at }
 {
-    let Found::Number {
-        value: flags,
-        next: a,
-    } = flags_at(image, at)
-    else {
-        return FoundRecord::Refused;
-    };
-    let Found::Number {
-        value: priority,
-        next: b,
-    } = number_up_to(image, a, 255)
-    else {
-        return FoundRecord::Refused;
-    };
-    let FoundRest::Read {
-        owner,
-        mask,
-        sources,
-        next,
-    } = rest_at(image, b, vcpu, intid, flags / 8 % 2 == 1)
-    else {
-        return FoundRecord::Refused;
-    };
-    let record = record_from(flags, priority as u8, owner, mask);
-    lawful_record(shape, vcpu, intid, record, sources, next)
+    let (flags, a) = flags_at(image, at)?;
+    let (priority, b) = number_up_to(image, a, 255)?;
+    let (rest, next) = rest_at(image, b, vcpu, intid, flags / 8 % 2 == 1)?;
+    let record = record_from(flags, priority as u8, rest.owner, rest.mask);
+    lawful_record(shape, vcpu, intid, record, rest.sources, next)
 }
 
 // Of an SPI: nobody's if it is not in flight, with no redelivery noted; else active, and an existing vCPU's.
@@ -318,41 +234,19 @@ fn spi_lawful(shape: Shape, flags: u32, owner: u32, mask: u32) -> bool
 }
 
 // Every SPI's record is read the same way. An owner above 8 is told by the count.
-pub fn spi_at(image: &[u8], at: usize, shape: Shape) -> FoundRecord
+#[tactic(auto, unfolding(crate::specs::Reading::record_found))]
+pub fn spi_at(image: &[u8], at: usize, shape: Shape) -> Option<(RecordAndSources, usize)>
     requires { Limits shape }
     ensures { (n : ℕ) → 32 ≤ n → result ≡ record_found shape 0 n image.now at }
 {
-    let Found::Number {
-        value: flags,
-        next: a,
-    } = flags_at(image, at)
-    else {
-        return FoundRecord::Refused;
-    };
-    let Found::Number {
-        value: priority,
-        next: b,
-    } = number_up_to(image, a, 255)
-    else {
-        return FoundRecord::Refused;
-    };
-    let Found::Number {
-        value: owner,
-        next: c,
-    } = read(image, b, 1)
-    else {
-        return FoundRecord::Refused;
-    };
-    let Found::Number { value: mask, next } = number_up_to(image, c, UNSET) else {
-        return FoundRecord::Refused;
-    };
+    let (flags, a) = flags_at(image, at)?;
+    let (priority, b) = number_up_to(image, a, 255)?;
+    let (owner, c) = read(image, b, 1)?;
+    let (mask, next) = number_up_to(image, c, UNSET)?;
     if !spi_lawful(shape, flags, owner, mask) {
-        return FoundRecord::Refused;
+        return None;
     }
     let server = owner_of(owner as usize);
-    FoundRecord::Read {
-        record: record_from(flags, priority as u8, server, mask_from(mask)),
-        sources: 0,
-        next,
-    }
+    let record = record_from(flags, priority as u8, server, mask_from(mask));
+    Some((RecordAndSources { record, sources: 0 }, next))
 }

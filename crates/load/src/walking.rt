@@ -1,16 +1,14 @@
 // The walk through an image, part by part: taken twice, first to look and then to store.
-ghost use Rattle.std.specs.Prelude.{◌≡◌, true, cond, ◌+◌, ◌-◌, ◌*◌, ◌≤◌, ◌<◌};
+ghost use Rattle.std.specs.Prelude.{ℕ, ◌≡◌, true, cond, ◌+◌, ◌-◌, ◌*◌, ◌≤◌, ◌<◌};
 ghost use Rattle.state.specs.Layout.{Limits, Room, stack_capacity};
 ghost use Rattle.state.specs.Words.{RecordThere, with_entry};
 ghost use Rattle.image.specs.Parts.{part_count};
 ghost use Rattle.load.specs.Reading.{registers_at, record_found};
-ghost use Rattle.load.specs.Walking.{with_registers, registers_end, registers_stored, with_depth, with_interrupt, entry_spot, spot_end, entries_stored, cleared_past, cleared_from, service_end, service_stored, record_end, record_stored, walked, parts_stored, Section};
+ghost use Rattle.load.specs.Walking.{with_registers, registers_end, registers_stored, with_depth, with_interrupt, entry_spot, spot_end, entries_stored, cleared_past, cleared_from, service_end, service_stored, record_end, record_stored, walked, parts_stored, Section, TakesEach};
 
 use crate::reading::{
-    FoundEntry, FoundRecord, FoundRegisters, entry_at, number_up_to, private_at, registers_at,
-    spi_at,
+    InterfaceRegisters, entry_at, number_up_to, private_at, registers_at, spi_at,
 };
-use groups::Found;
 use interrupt::{GicVcpuId, IntId, InterruptRecord, Priority};
 use state::layout::{FIRST_SPI, STACK_CAPACITY};
 use state::words::{
@@ -18,29 +16,35 @@ use state::words::{
 };
 use state::{Entry, InterfaceValue, Shape};
 
-// A place of the image, or that it is none.
-#[derive(Clone, Copy)]
-pub enum Place {
-    At(usize),
-    Refused,
-}
-
-fn put_registers(
-    words: &mut [u32],
-    shape: Shape,
-    vcpu: GicVcpuId,
-    control: u32,
-    mask: u32,
-    point: u32,
-)
+fn put_registers(words: &mut [u32], shape: Shape, vcpu: GicVcpuId, registers: InterfaceRegisters)
     requires { (Room shape words.old) × (vcpu.0 < shape.count) }
-    ensures { words.new ≡ with_registers shape vcpu.0 control mask point words.old }
+    ensures { words.new ≡ with_registers shape vcpu.0 registers.control registers.mask registers.point words.old }
 {
-    put_interface_value(words, shape, vcpu, InterfaceValue::Control, control);
-    put_interface_value(words, shape, vcpu, InterfaceValue::PriorityMask, mask);
-    put_interface_value(words, shape, vcpu, InterfaceValue::BinaryPoint, point);
+    put_interface_value(
+        words,
+        shape,
+        vcpu,
+        InterfaceValue::Control,
+        registers.control,
+    );
+    put_interface_value(
+        words,
+        shape,
+        vcpu,
+        InterfaceValue::PriorityMask,
+        registers.mask,
+    );
+    put_interface_value(
+        words,
+        shape,
+        vcpu,
+        InterfaceValue::BinaryPoint,
+        registers.point,
+    );
 }
 
+// The clause `section` is what `take_each` asks of it.
+#[tactic(auto, using(crate::proofs::Sections::section_registers))]
 fn take_registers(
     image: &[u8],
     at: usize,
@@ -48,23 +52,16 @@ fn take_registers(
     shape: Shape,
     vcpu: GicVcpuId,
     stores: bool,
-) -> Place
+) -> Option<usize>
     requires { (stores ≡ true → Room shape words.old) × (vcpu.0 < shape.count) }
-    ensures { (result ≡ registers_end (registers_at image.now at)) × (words.new ≡ cond stores (registers_stored shape vcpu.0 (registers_at image.now at) words.old) words.old) }
+    ensures taken { (result ≡ registers_end (registers_at image.now at)) × (words.new ≡ cond stores (registers_stored shape vcpu.0 (registers_at image.now at) words.old) words.old) }
+    ensures section { Section shape image.now (0 + 1 * vcpu.0) (1) stores at words.old result words.new }
 {
-    let FoundRegisters::Read {
-        control,
-        mask,
-        point,
-        next,
-    } = registers_at(image, at)
-    else {
-        return Place::Refused;
-    };
+    let (registers, next) = registers_at(image, at)?;
     if stores {
-        put_registers(words, shape, vcpu, control, mask, point);
+        put_registers(words, shape, vcpu, registers);
     }
-    Place::At(next)
+    Some(next)
 }
 
 fn clear_past(words: &mut [u32], shape: Shape, vcpu: GicVcpuId, depth: u32, i: u32)
@@ -78,14 +75,13 @@ fn clear_past(words: &mut [u32], shape: Shape, vcpu: GicVcpuId, depth: u32, i: u
 
 // What lies past the newest entry is cleared. The test in the loop keeps the compiler from making it a call of memset, which not every
 // host has.
+#[tactic(auto, using(crate::proofs::Walks::cleared_by_test), unfolding(crate::specs::Walking::cleared_from))]
 fn clear_from(words: &mut [u32], shape: Shape, vcpu: GicVcpuId, depth: u32)
     requires { (Room shape words.old) × ((vcpu.0 < shape.count) × (depth ≤ stack_capacity)) }
     ensures { words.new ≡ cleared_from shape vcpu.0 depth words.old }
 {
-    let mut i = 0;
-    while i < STACK_CAPACITY {
+    for i in 0..STACK_CAPACITY {
         clear_past(words, shape, vcpu, depth, i);
-        i += 1;
     }
 }
 
@@ -113,23 +109,19 @@ fn take_entries(
     vcpu: GicVcpuId,
     depth: u32,
     stores: bool,
-) -> Place
+) -> Option<usize>
     requires { (stores ≡ true → Room shape words.old) × ((vcpu.0 < shape.count) × (depth ≤ stack_capacity)) }
     ensures { (result ≡ spot_end (entry_spot shape image.now start depth)) × (words.new ≡ cond stores (entries_stored shape image.now vcpu.0 start depth words.old) words.old) }
 {
     let mut at = start;
     let mut above = Priority::IDLE;
-    let mut i = 0;
-    while i < depth {
-        let FoundEntry::Read { entry, next } = entry_at(image, at, shape, above) else {
-            return Place::Refused;
-        };
+    for i in 0..depth {
+        let (entry, next) = entry_at(image, at, shape, above)?;
         store_entry(words, shape, vcpu, i, entry, stores);
         at = next;
         above = entry.priority;
-        i += 1;
     }
-    Place::At(at)
+    Some(at)
 }
 
 fn begin_service(words: &mut [u32], shape: Shape, vcpu: GicVcpuId, depth: u32, stores: bool)
@@ -142,6 +134,7 @@ fn begin_service(words: &mut [u32], shape: Shape, vcpu: GicVcpuId, depth: u32, s
     }
 }
 
+#[tactic(auto, using(crate::proofs::Sections::section_service), unfolding(crate::specs::Walking::service_end, crate::specs::Walking::service_stored))]
 fn take_service(
     image: &[u8],
     at: usize,
@@ -149,13 +142,12 @@ fn take_service(
     shape: Shape,
     vcpu: GicVcpuId,
     stores: bool,
-) -> Place
+) -> Option<usize>
     requires { (stores ≡ true → Room shape words.old) × (vcpu.0 < shape.count) }
-    ensures { (result ≡ service_end shape image.now at) × (words.new ≡ cond stores (service_stored shape image.now vcpu.0 at words.old) words.old) }
+    ensures taken { (result ≡ service_end shape image.now at) × (words.new ≡ cond stores (service_stored shape image.now vcpu.0 at words.old) words.old) }
+    ensures section { Section shape image.now (shape.count + 1 * vcpu.0) (1) stores at words.old result words.new }
 {
-    let Found::Number { value: depth, next } = number_up_to(image, at, STACK_CAPACITY) else {
-        return Place::Refused;
-    };
+    let (depth, next) = number_up_to(image, at, STACK_CAPACITY)?;
     begin_service(words, shape, vcpu, depth, stores);
     take_entries(image, next, words, shape, vcpu, depth, stores)
 }
@@ -185,22 +177,15 @@ fn take_private(
     vcpu: GicVcpuId,
     intid: IntId,
     stores: bool,
-) -> Place
+) -> Option<usize>
     requires { (Limits shape) × ((stores ≡ true → Room shape words.old) × ((vcpu.0 < shape.count) × (intid.0 < 32))) }
     ensures { (result ≡ record_end (record_found shape vcpu.0 intid.0 image.now at)) × (words.new ≡ cond stores (record_stored shape vcpu.0 intid.0 (record_found shape vcpu.0 intid.0 image.now at) words.old) words.old) }
 {
-    let FoundRecord::Read {
-        record,
-        sources,
-        next,
-    } = private_at(image, at, shape, vcpu, intid)
-    else {
-        return Place::Refused;
-    };
+    let (found, next) = private_at(image, at, shape, vcpu, intid)?;
     if stores {
-        store_record(words, shape, vcpu, intid, record, sources);
+        store_record(words, shape, vcpu, intid, found.record, found.sources);
     }
-    Place::At(next)
+    Some(next)
 }
 
 // The SPIs' records are met as the first vCPU's.
@@ -211,22 +196,35 @@ fn take_spi(
     shape: Shape,
     intid: IntId,
     stores: bool,
-) -> Place
+) -> Option<usize>
     requires { (Limits shape) × ((stores ≡ true → Room shape words.old) × ((32 ≤ intid.0) × (intid.0 < shape.limit))) }
     ensures { (result ≡ record_end (record_found shape 0 intid.0 image.now at)) × (words.new ≡ cond stores (record_stored shape 0 intid.0 (record_found shape 0 intid.0 image.now at) words.old) words.old) }
 {
-    let FoundRecord::Read {
-        record,
-        sources: _,
-        next,
-    } = spi_at(image, at, shape)
-    else {
-        return Place::Refused;
-    };
+    let (found, next) = spi_at(image, at, shape)?;
     if stores {
-        put_record(words, shape, GicVcpuId(0), intid, record);
+        put_record(words, shape, GicVcpuId(0), intid, found.record);
     }
-    Place::At(next)
+    Some(next)
+}
+
+// What `take` takes of each vCPU, one after another.
+fn take_each<F: Fn(&[u8], usize, &mut [u32], Shape, GicVcpuId, bool) -> Option<usize>>(
+    image: &[u8],
+    start: usize,
+    words: &mut [u32],
+    shape: Shape,
+    stores: bool,
+    take: F,
+) -> Option<usize>
+    ghost section: { ℕ × ℕ }
+    requires { (TakesEach F.Fn take stores shape image.now section) × (stores ≡ true → Room shape words.old) }
+    ensures { Section shape image.now section.0 (section.1 * shape.count) stores start words.old result words.new }
+{
+    let mut at = start;
+    for v in 0..shape.count {
+        at = take(image, at, words, shape, GicVcpuId(v), stores)?;
+    }
+    Some(at)
 }
 
 // Each vCPU's registers.
@@ -236,42 +234,29 @@ fn take_interfaces(
     words: &mut [u32],
     shape: Shape,
     stores: bool,
-) -> Place
+) -> Option<usize>
     requires { (Limits shape) × (stores ≡ true → Room shape words.old) }
     ensures { Section shape image.now (0) shape.count stores start words.old result words.new }
 {
-    let many = shape.count;
-    let mut at = start;
-    let mut v = 0;
-    while v < many {
-        let Place::At(next) = take_registers(image, at, words, shape, GicVcpuId(v), stores) else {
-            return Place::Refused;
-        };
-        at = next;
-        v += 1;
-    }
-    Place::At(at)
+    take_each(image, start, words, shape, stores, take_registers)
 }
 
 // Each vCPU's stack.
-fn take_stacks(image: &[u8], start: usize, words: &mut [u32], shape: Shape, stores: bool) -> Place
+fn take_stacks(
+    image: &[u8],
+    start: usize,
+    words: &mut [u32],
+    shape: Shape,
+    stores: bool,
+) -> Option<usize>
     requires { (Limits shape) × (stores ≡ true → Room shape words.old) }
     ensures { Section shape image.now shape.count shape.count stores start words.old result words.new }
 {
-    let many = shape.count;
-    let mut at = start;
-    let mut v = 0;
-    while v < many {
-        let Place::At(next) = take_service(image, at, words, shape, GicVcpuId(v), stores) else {
-            return Place::Refused;
-        };
-        at = next;
-        v += 1;
-    }
-    Place::At(at)
+    take_each(image, start, words, shape, stores, take_service)
 }
 
-// A vCPU's private records.
+// A vCPU's private records. This loop and that over the SPIs are not `take_each`'s: what they call is told an INTID, and a closure that
+// holds the vCPU for it got no proof.
 fn take_own(
     image: &[u8],
     start: usize,
@@ -279,55 +264,45 @@ fn take_own(
     shape: Shape,
     vcpu: GicVcpuId,
     stores: bool,
-) -> Place
+) -> Option<usize>
     requires { (Limits shape) × ((stores ≡ true → Room shape words.old) × (vcpu.0 < shape.count)) }
     ensures { Section shape image.now (2 * shape.count + 32 * vcpu.0) (32) stores start words.old result words.new }
 {
-    let many = FIRST_SPI;
     let mut at = start;
-    let mut n = 0;
-    while n < many {
-        let Place::At(next) = take_private(image, at, words, shape, vcpu, IntId(n), stores) else {
-            return Place::Refused;
-        };
-        at = next;
-        n += 1;
+    for n in 0..FIRST_SPI {
+        at = take_private(image, at, words, shape, vcpu, IntId(n), stores)?;
     }
-    Place::At(at)
+    Some(at)
 }
 
-fn take_privates(image: &[u8], start: usize, words: &mut [u32], shape: Shape, stores: bool) -> Place
+fn take_privates(
+    image: &[u8],
+    start: usize,
+    words: &mut [u32],
+    shape: Shape,
+    stores: bool,
+) -> Option<usize>
     requires { (Limits shape) × (stores ≡ true → Room shape words.old) }
     ensures { Section shape image.now (2 * shape.count) (32 * shape.count) stores start words.old result words.new }
 {
-    let many = shape.count;
-    let mut at = start;
-    let mut v = 0;
-    while v < many {
-        let Place::At(next) = take_own(image, at, words, shape, GicVcpuId(v), stores) else {
-            return Place::Refused;
-        };
-        at = next;
-        v += 1;
-    }
-    Place::At(at)
+    take_each(image, start, words, shape, stores, take_own)
 }
 
-fn take_spis(image: &[u8], start: usize, words: &mut [u32], shape: Shape, stores: bool) -> Place
+fn take_spis(
+    image: &[u8],
+    start: usize,
+    words: &mut [u32],
+    shape: Shape,
+    stores: bool,
+) -> Option<usize>
     requires { (Limits shape) × (stores ≡ true → Room shape words.old) }
     ensures { Section shape image.now (34 * shape.count) (shape.limit - 32) stores start words.old result words.new }
 {
-    let many = shape.limit - FIRST_SPI;
     let mut at = start;
-    let mut k = 0;
-    while k < many {
-        let Place::At(next) = take_spi(image, at, words, shape, IntId(FIRST_SPI + k), stores) else {
-            return Place::Refused;
-        };
-        at = next;
-        k += 1;
+    for k in 0..shape.limit - FIRST_SPI {
+        at = take_spi(image, at, words, shape, IntId(FIRST_SPI + k), stores)?;
     }
-    Place::At(at)
+    Some(at)
 }
 
 // Without `stores` the words stay: the whole image is looked at before the first word is stored.
@@ -337,18 +312,12 @@ pub fn take_parts(
     words: &mut [u32],
     shape: Shape,
     stores: bool,
-) -> Place
+) -> Option<usize>
     requires { (Limits shape) × (stores ≡ true → Room shape words.old) }
     ensures { (result ≡ walked shape image.now start (part_count shape)) × (words.new ≡ cond stores (parts_stored shape image.now start words.old) words.old) }
 {
-    let Place::At(a) = take_interfaces(image, start, words, shape, stores) else {
-        return Place::Refused;
-    };
-    let Place::At(b) = take_stacks(image, a, words, shape, stores) else {
-        return Place::Refused;
-    };
-    let Place::At(c) = take_privates(image, b, words, shape, stores) else {
-        return Place::Refused;
-    };
+    let a = take_interfaces(image, start, words, shape, stores)?;
+    let b = take_stacks(image, a, words, shape, stores)?;
+    let c = take_privates(image, b, words, shape, stores)?;
     take_spis(image, c, words, shape, stores)
 }

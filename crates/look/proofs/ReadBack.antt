@@ -1,4 +1,5 @@
 -- What a look at an interrupt tells: its record, whole; and in a state as we write it the very word that is stored. Assumes nothing.
+use Rattle.std.specs.Prelude.{Some}
 use mathlib.Core.Path.{◌≡◌, refl, sym, ap, ◌∙◌}
 use mathlib.Core.Bool.{Bool, true, false, cond}
 use mathlib.Core.List.{List}
@@ -8,7 +9,6 @@ use borrow.Author.Tests.{ltb-true, lt-ltb}
 use Rattle.word.specs.Word.{word_of, record_of}
 use Rattle.word.proofs.RecordWord.{decode_encode, decoded_in_range}
 use Rattle.state.specs.declared.layout.Shape.{Shape}
-use Rattle.state.specs.declared.lent.Lent.TheVariants as lent
 use Rattle.state.specs.Layout.{Private, Spi}
 use Rattle.state.specs.Lent.{validated}
 use Rattle.state.specs.Words.{word_at, record_slot, RecordThere, record_at, rewritten, Canonical}
@@ -17,7 +17,7 @@ use Rattle.answer.specs.Answer.{Outcome, gave}
 use Rattle.answer.proofs.Present.{found}
 use Rattle.look.specs.Look.{interrupt_word}
 
-module _ (shape : Shape) (v n : ℕ) (s : List ℕ) (h : validated s ≡ lent.Sound shape) (there : RecordThere shape v n) where
+module _ (shape : Shape) (v n : ℕ) (s : List ℕ) (h : validated s ≡ Some shape) (there : RecordThere shape v n) where
   pub looked_at : interrupt_word v n s ≡ gave (word_of (record_at shape v n s)) s
   unfolding interrupt_word
   looked_at = simp (h, lt-ltb n shape.limit there.numbered, found (ltb n 32) shape v (λ e. there.banked (ltb-true n 32 e)))

@@ -1,4 +1,5 @@
 -- What the two calls come to, case by case. Each law takes what the steps of its call have shown, one premise for each step. Assumes nothing.
+use Rattle.std.specs.Prelude.{Option, Some, None}
 use mathlib.Core.Path.{◌≡◌, refl, sym, ◌∙◌}
 use mathlib.Core.Bool.{Bool, true, false}
 use mathlib.Core.List.{List}
@@ -9,8 +10,6 @@ use Rattle.interrupt.specs.declared.record.InterruptRecord.{InterruptRecord}
 use Rattle.word.specs.Word.{bit_of, word_of}
 use Rattle.register.specs.declared.frame.Refusal.TheVariants.{Vcpu, BrokenState}
 use Rattle.state.specs.declared.layout.Shape.{Shape}
-use Rattle.state.specs.declared.lent.Lent.{Lent}
-use Rattle.state.specs.declared.lent.Lent.TheVariants as lent
 use Rattle.state.specs.Lent.{validated}
 use Rattle.state.specs.Words.{Reached, record_at}
 use Rattle.service.specs.Service.{Served}
@@ -19,21 +18,9 @@ use Rattle.answer.specs.Answer.{Outcome, refused, gave, absent}
 use Rattle.answer.proofs.Present.{found_sound, present}
 use Rattle.look.specs.Look.{line_level, irq_level, interrupt_word}
 
-module _ (v : ℕ) (s : List ℕ) (found : Lent) (e : found ≡ validated s) where
-  pub level_broken : found ≡ lent.Broken → refused BrokenState s ≡ irq_level v s
-  unfolding irq_level
-  level_broken h = simp (← e, h)
-
-  pub interrupt_broken : (n : ℕ) → found ≡ lent.Broken → refused BrokenState s ≡ interrupt_word v n s
-  unfolding interrupt_word
-  interrupt_broken n h = simp (← e, h)
-
-  module _ (shape : Shape) (h : found ≡ lent.Sound shape) where
+module _ (v : ℕ) (s : List ℕ) (found : Option Shape) (e : found ≡ validated s) where
+  module _ (shape : Shape) (h : found ≡ Some shape) where
     module _ (q : Bool) (a : q ≡ absent true shape v) where
-      pub level_absent : q ≡ true → refused Vcpu s ≡ irq_level v s
-      unfolding irq_level
-      level_absent p = simp (← e, h, ← a, p)
-
       pub level_served : q ≡ false → Served shape v s
       level_served p = sound_served v (found_sound s found e shape h) (present true shape v (sym a ∙ p) refl)
 
@@ -47,6 +34,7 @@ module _ (v : ℕ) (s : List ℕ) (found : Lent) (e : found ≡ validated s) whe
       interrupt_past out past given = given ∙ simp (← e, h, le-ltb n shape.limit past)
 
       module _ (below : n < shape.limit) (private q : Bool) (i : private ≡ is_private_id (record { 0 = n })) (a : q ≡ absent private shape v) where
+        -- (no proof cites it: the check finds the refusal; `an_spi_is_looked_up` is refused by it)
         pub interrupt_absent : q ≡ true → refused Vcpu s ≡ interrupt_word v n s
         unfolding interrupt_word
         interrupt_absent p = simp (← e, h, lt-ltb n shape.limit below, ← i, ← a, p)

@@ -7,8 +7,7 @@ use Rattle.state.specs.Lent.{validated}
 use Rattle.state.specs.Words.{record_at}
 use Rattle.acknowledge.specs.Acknowledge.{acknowledge}
 use Rattle.wake.specs.Wake.{gives_number}
-use Rattle.answer.specs.declared.Answer.{Answer}
-use Rattle.answer.specs.Answer.{Outcome, outcome, gave, on_state, looked_up}
+use Rattle.answer.specs.Answer.{Answer, Outcome, outcome, gave, on_state, looked_up}
 
 -- "whether a read of IAR by this vCPU would now give a number: the level of the line that a hypervisor drives into the vCPU"
 abbrev pub line_level : Shape → ℕ → List ℕ → Bool

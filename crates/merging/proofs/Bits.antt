@@ -1,5 +1,6 @@
 -- A word of a bit register written twice: each number is written twice, and of that the record's transition is its last, or once is as good as twice.
 -- In any words that hold a state. Assumes nothing.
+use Rattle.std.specs.Prelude.{None}
 use mathlib.Core.Path.{◌≡◌, refl, sym, ap, ◌∙◌}
 use mathlib.Core.Bool.{Bool, true, false, not, cond, ◌&&◌, ◌||◌, true≢false}
 use mathlib.Core.List.{List}
@@ -11,7 +12,6 @@ use Rattle.interrupt.specs.Types.{is_sgi, is_level}
 use Rattle.interrupt.specs.With.{with_enabled, with_pending, with_redelivery}
 use Rattle.interrupt.specs.Record.{set_enabled, held, set_pending, set_active, cancel_inflight, set_trigger, set_owner}
 use Rattle.interrupt.specs.declared.record.InterruptRecord.{InterruptRecord}
-use Rattle.interrupt.specs.declared.record.Owner.TheVariants.{Nobody}
 use Rattle.register.specs.declared.ranges.BitRegister.{BitRegister}
 use Rattle.register.specs.declared.ranges.BitRegister.TheVariants.{Igroupr, Isenabler, Icenabler, Ispendr, Icpendr, Isactiver, Icactiver, Icfgr}
 use Rattle.word.specs.Fields.{field_at}
@@ -56,7 +56,7 @@ unfolding clear_active set_owner cancel_inflight set_active
 cleared_again r = go r.inflight refl
   where
     go : (b : Bool) → r.inflight ≡ b
-        → clear_active (cond b (set_owner (cancel_inflight (set_active r false)) Nobody) (set_active r false)) ≡ cond b (set_owner (cancel_inflight (set_active r false)) Nobody) (set_active r false)
+        → clear_active (cond b (set_owner (cancel_inflight (set_active r false)) None) (set_active r false)) ≡ cond b (set_owner (cancel_inflight (set_active r false)) None) (set_active r false)
     go true e = refl
     go false e = simp e
 

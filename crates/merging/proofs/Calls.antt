@@ -1,5 +1,6 @@
 -- Document 02, Six: two writes to the Distributor, by one vCPU at the same place, are one; where records only become readier or only less ready their wake
 -- sets together are its wake set. Assumes nothing.
+use Rattle.std.specs.Prelude.{Option, Some, None}
 use mathlib.Core.Path.{◌≡◌, refl, sym, ap, subst, ◌∙◌}
 use mathlib.Core.Bool.{Bool, true, false, not, cond, true≢false}
 use mathlib.Core.List.{List}
@@ -18,8 +19,6 @@ use Rattle.register.specs.declared.distributor.DistributorAccess.TheVariants.{At
 use Rattle.register.specs.Distributor.{locate_distributor}
 use Rattle.register.specs.Frame.{bytes}
 use Rattle.state.specs.declared.layout.Shape.{Shape}
-use Rattle.state.specs.declared.lent.Lent.{Lent}
-use Rattle.state.specs.declared.lent.Lent.TheVariants as lent
 use Rattle.state.specs.Lent.{validated}
 use Rattle.state.specs.Words.{sources_at, Exact}
 use Rattle.state.proofs.Validated.{held_validated}
@@ -59,26 +58,26 @@ module _ (v offset : ℕ) (width : AccessWidth) (place : Place) (located : locat
   looks x = write_place_looks_up place.class place.private x
 
   -- what a write comes to: 6, 3, or the place is written
-  pub broken : (value : ℕ) (s : List ℕ) → validated s ≡ lent.Broken → write value s ≡ refused BrokenState s
+  pub broken : (value : ℕ) (s : List ℕ) → validated s ≡ None → write value s ≡ refused BrokenState s
   unfolding write_v2_distributor
   broken value s h = simp h
 
-  pub written : (value : ℕ) (s : List ℕ) (shape : Shape) → validated s ≡ lent.Sound shape → (l : Bool) → looks (value % 2 ^ 32) ≡ l
+  pub written : (value : ℕ) (s : List ℕ) (shape : Shape) → validated s ≡ Some shape → (l : Bool) → looks (value % 2 ^ 32) ≡ l
       → write value s ≡ cond (absent l shape v) (refused Vcpu s) (went shape 1023 s (write_place shape v place width (value % 2 ^ 32) s))
   unfolding write_v2_distributor
   written value s shape h l e = simp (h, located, e)
 
-  module _ (shape : Shape) (s : List ℕ) (h : validated s ≡ lent.Sound shape) where
+  module _ (shape : Shape) (s : List ℕ) (h : validated s ≡ Some shape) where
     pub place_at_lem : (x : ℕ) (l : Bool) → looks x ≡ l → absent l shape v ≡ false → PlaceWritten shape v place width x s
     place_at_lem x l e there =
         record { state = (validated_sound shape s h).state; located = record { offset = offset; at = located }; looked = λ q. present l shape v there (sym e ∙ q) }
 
     -- the words after it are a state of the same shape
-    pub after_valid : (value : ℕ) (r : List ℕ) → (write value s).state ≡ r → validated r ≡ lent.Sound shape
-    after_valid value r e = subst (λ (t : List ℕ). validated t ≡ lent.Sound shape) e (call_valid shape s h (WriteDistributor v offset width value) refl)
+    pub after_valid : (value : ℕ) (r : List ℕ) → (write value s).state ≡ r → validated r ≡ Some shape
+    after_valid value r e = subst (λ (t : List ℕ). validated t ≡ Some shape) e (call_valid shape s h (WriteDistributor v offset width value) refl)
 
   -- one write alone, where nothing is made readier
-  module _ (shape : Shape) (s : List ℕ) (h : validated s ≡ lent.Sound shape) (exact : Exact shape s) (a : ℕ) where
+  module _ (shape : Shape) (s : List ℕ) (h : validated s ≡ Some shape) (exact : Exact shape s) (a : ℕ) where
     pub none_woken : wakes_add place.class ≡ true → wakes_nobody place.class ≡ true
         → (PlaceWritten shape v place width (a % 2 ^ 32) s → ClassNeeds shape v place.class place.first.0 width s) → (write a s).wake ≡ 0
     none_woken adds nobody need = ap (λ (o : Outcome). o.wake) (written a s shape h (looks (a % 2 ^ 32)) refl) ∙ go (absent (looks (a % 2 ^ 32)) shape v) refl
@@ -137,17 +136,17 @@ module _ (v offset : ℕ) (width : AccessWidth) (place : Place) (located : locat
           both = bit_or (write a s).wake (write b (write a s).state).wake
 
     -- accepted, all three
-    module _ (shape : Shape) (s : List ℕ) (h : validated s ≡ lent.Sound shape) (there : absent (looks (c % 2 ^ 32)) shape v ≡ false) where
+    module _ (shape : Shape) (s : List ℕ) (h : validated s ≡ Some shape) (there : absent (looks (c % 2 ^ 32)) shape v ≡ false) where
       abbrev first : List ℕ
       first = write_place shape v place width x s
 
       abbrev second : List ℕ
       second = write_place shape v place width y first
 
-      wrote : (value : ℕ) (r : List ℕ) → validated r ≡ lent.Sound shape → looks (value % 2 ^ 32) ≡ looks (c % 2 ^ 32) → write value r ≡ went shape 1023 r (write_place shape v place width (value % 2 ^ 32) r)
+      wrote : (value : ℕ) (r : List ℕ) → validated r ≡ Some shape → looks (value % 2 ^ 32) ≡ looks (c % 2 ^ 32) → write value r ≡ went shape 1023 r (write_place shape v place width (value % 2 ^ 32) r)
       wrote value r k e = written value r shape k (looks (c % 2 ^ 32)) e ∙ simp there
 
-      first_valid : validated first ≡ lent.Sound shape
+      first_valid : validated first ≡ Some shape
       first_valid = after_valid shape s h a first (ap (λ (o : Outcome). o.state) (wrote a s h first_looks))
 
       at_first : PlaceWritten shape v place width x s
@@ -199,7 +198,7 @@ module _ (v offset : ℕ) (width : AccessWidth) (place : Place) (located : locat
 
       -- what holds where all three are refused, and where they are accepted
       module _ (P : Type 0) (refuses : (r : Refusal) → write a s ≡ refused r s → write b s ≡ refused r s → write c s ≡ refused r s → P) where
-        by_look_up : (shape : Shape) → validated s ≡ lent.Sound shape → Needed shape
+        by_look_up : (shape : Shape) → validated s ≡ Some shape → Needed shape
             → ((there : absent (looks (c % 2 ^ 32)) shape v ≡ false) → ClassNeeds shape v place.class place.first.0 width s → P) → P
         by_look_up shape h need accepts = by (absent (looks (c % 2 ^ 32)) shape v) refl
           where
@@ -208,21 +207,21 @@ module _ (v offset : ℕ) (width : AccessWidth) (place : Place) (located : locat
                 refuses Vcpu (written a s shape h (looks (c % 2 ^ 32)) first_looks ∙ simp e) (written b s shape h (looks (c % 2 ^ 32)) second_looks ∙ simp e) (written c s shape h (looks (c % 2 ^ 32)) refl ∙ simp e)
             by false e = accepts e (need (at_first shape s h e))
 
-        in_any_words : ((shape : Shape) → validated s ≡ lent.Sound shape → Needed shape)
-            → ((shape : Shape) (h : validated s ≡ lent.Sound shape) (there : absent (looks (c % 2 ^ 32)) shape v ≡ false) → ClassNeeds shape v place.class place.first.0 width s → P) → P
+        in_any_words : ((shape : Shape) → validated s ≡ Some shape → Needed shape)
+            → ((shape : Shape) (h : validated s ≡ Some shape) (there : absent (looks (c % 2 ^ 32)) shape v ≡ false) → ClassNeeds shape v place.class place.first.0 width s → P) → P
         in_any_words need accepts = go (validated s) refl
           where
-            go : (held : Lent) → validated s ≡ held → P
-            go lent.Broken h = refuses BrokenState (broken a s h) (broken b s h) (broken c s h)
-            go (lent.Sound shape) h = by_look_up shape h (need shape h) (accepts shape h)
+            go : (held : Option Shape) → validated s ≡ held → P
+            go None h = refuses BrokenState (broken a s h) (broken b s h) (broken c s h)
+            go (Some shape) h = by_look_up shape h (need shape h) (accepts shape h)
 
-      pub state_as_one : ((shape : Shape) → validated s ≡ lent.Sound shape → Needed shape) → OneState write a b c s
+      pub state_as_one : ((shape : Shape) → validated s ≡ Some shape → Needed shape) → OneState write a b c s
       state_as_one need = in_any_words (OneState write a b c s) (λ r. refused_state r s) need (λ shape h there. accepted_state shape s h there)
 
-      pub no_other_as_one : ((shape : Shape) → validated s ≡ lent.Sound shape → Needed shape) → WakesNoOther write a b c s
+      pub no_other_as_one : ((shape : Shape) → validated s ≡ Some shape → Needed shape) → WakesNoOther write a b c s
       no_other_as_one need = in_any_words (WakesNoOther write a b c s) (λ r. refused_no_other r s) need (λ shape h there. accepted_no_other shape s h there)
 
-      pub wakes_as_one : wakes_add place.class ≡ true → (shape : Shape) → validated s ≡ lent.Sound shape → Exact shape s → Needed shape → OneWakeSet write a b c s
+      pub wakes_as_one : wakes_add place.class ≡ true → (shape : Shape) → validated s ≡ Some shape → Exact shape s → Needed shape → OneWakeSet write a b c s
       wakes_as_one adds shape h exact need = by_look_up (OneWakeSet write a b c s) (λ r. refused_wakes r s) shape h need (λ there needed. accepted_wakes shape s h there needed adds exact)
 
 -- what CPENDSGIR needs is demand 3's: an SGI is pending where a source is set
@@ -246,7 +245,7 @@ module _ (shape : Shape) (v : ℕ) (place : Place) (w : AccessWidth) (x : ℕ) (
   class_needed Other e orderly = tt
 
   -- where nothing is supposed of the words, nothing is needed
-  supposed : (c : Class) → place.class ≡ c → Supposes c s → validated s ≡ lent.Sound shape → ClassNeeds shape v c place.first.0 w s
+  supposed : (c : Class) → place.class ≡ c → Supposes c s → validated s ≡ Some shape → ClassNeeds shape v c place.first.0 w s
   supposed Ctlr e d h = tt
   supposed Typer e d h = tt
   supposed Iidr e d h = tt
@@ -256,7 +255,7 @@ module _ (shape : Shape) (v : ℕ) (place : Place) (w : AccessWidth) (x : ℕ) (
   supposed (Bytes Itargetsr) e d h = λ i b. tt
   supposed (Bytes Cpendsgir) e d h =
       let of_s : Described s = d in
-      let both : lent.Sound shape ≡ lent.Sound of_s.shape = sym h ∙ held_validated s of_s.shape of_s.holds in
+      let both : Some shape ≡ Some of_s.shape = sym h ∙ held_validated s of_s.shape of_s.holds in
       let same : shape ≡ of_s.shape = cc in
       byte_needed Cpendsgir e (subst (λ (k : Shape). Orderly k s) (sym same) of_s.orderly)
   supposed (Bytes Spendsgir) e d h = λ i b. tt

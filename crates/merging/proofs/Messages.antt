@@ -1,5 +1,6 @@
 -- Two writes to the message frame may change places: the words after them are the same, whatever was lent, and whom they wake together is the same where
 -- the summary is exact. The same write again adds nothing. Assumes nothing.
+use Rattle.std.specs.Prelude.{Option, Some, None, Result, Ok, Err}
 use mathlib.Core.Path.{◌≡◌, refl, sym, ap, subst, ◌∙◌}
 use mathlib.Core.Bool.{Bool, true, false, cond, false≢true}
 use mathlib.Core.List.{List}
@@ -12,8 +13,6 @@ use Rattle.register.specs.declared.frame.AccessWidth.{AccessWidth}
 use Rattle.word.specs.Word.{InRange, word_of}
 use Rattle.word.proofs.Cases.{same_or}
 use Rattle.state.specs.declared.layout.Shape.{Shape}
-use Rattle.state.specs.declared.lent.Lent.{Lent}
-use Rattle.state.specs.declared.lent.Lent.TheVariants as lent
 use Rattle.state.specs.Layout.{Room, Exists}
 use Rattle.state.specs.Lent.{validated}
 use Rattle.state.specs.Words.{record_slot, record_at, changed, Exact}
@@ -27,8 +26,6 @@ use Rattle.service.proofs.Soundness.{validated_sound}
 use Rattle.wake.specs.Wake.{wake_set}
 use Rattle.wake.proofs.WakeSets.{none_wakes_nobody}
 use Rattle.answer.specs.Answer.{Outcome}
-use Rattle.message_frame.specs.declared.MessageAccess.{MessageAccess}
-use Rattle.message_frame.specs.declared.MessageAccess.TheVariants.{Refused, At}
 use Rattle.message_frame.specs.MessageFrame.{is_window, window_of, locate_v2m}
 use Rattle.message_frame.proofs.Messages.{access_rings, message_rings, pulsed_if, ComesTo, message_comes_to}
 use Rattle.message_frame.proofs.Windows.{rung_spi}
@@ -40,6 +37,8 @@ use Rattle.merging.proofs.Bits.{changed_twice}
 use Rattle.merging.proofs.Order.{numbers_two}
 use Rattle.merging.proofs.Rising.{Way, Rises, Rising, way_none, wakes_add_lem}
 use Rattle.merging.proofs.Ways.{made_true, ready_of, changed_way}
+use Rattle.message_frame.specs.declared.MessageRegister.{MessageRegister}
+use Rattle.register.specs.declared.frame.Refusal.{Refusal}
 
 -- a pulse makes a record readier
 pulse_rises : (r : InterruptRecord) → Rises r (pulse r)
@@ -56,9 +55,9 @@ module _ (shape : Shape) (first count offset : ℕ) (width : AccessWidth) (value
   rung_exists e =
       go (locate_v2m offset width) (right_true (is_window shape first count) _ e)
     where
-      go : (a : MessageAccess) → access_rings (window_of first count) a (value % 2 ^ 32) ≡ true → Exists shape (record_slot 0 (value % 2 ^ 32))
-      go (Refused r) q = absurd (false≢true q)
-      go (At register) q = record_exists shape 0 (value % 2 ^ 32) ((rung_spi shape first count (left_true (is_window shape first count) _ e) register (value % 2 ^ 32) q).there 0)
+      go : (a : Result MessageRegister Refusal) → access_rings (window_of first count) a (value % 2 ^ 32) ≡ true → Exists shape (record_slot 0 (value % 2 ^ 32))
+      go (Err r) q = absurd (false≢true q)
+      go (Ok register) q = record_exists shape 0 (value % 2 ^ 32) ((rung_spi shape first count (left_true (is_window shape first count) _ e) register (value % 2 ^ 32) q).there 0)
 
 -- two steps
 module _ (shape : Shape) (n m : ℕ) (s : List ℕ) (h : Room shape s) where
@@ -77,12 +76,12 @@ step_way shape n s h true e = (
 )
 step_way shape n s h false e = (way_none true shape s, h)
 
-still_valid : (shape : Shape) (s : List ℕ) → validated s ≡ lent.Sound shape → (c : Call) → is_start c ≡ false → (r : List ℕ) → (called c s).state ≡ r → validated r ≡ lent.Sound shape
-still_valid shape s h c other r e = subst (λ (t : List ℕ). validated t ≡ lent.Sound shape) e (call_valid shape s h c other)
+still_valid : (shape : Shape) (s : List ℕ) → validated s ≡ Some shape → (c : Call) → is_start c ≡ false → (r : List ℕ) → (called c s).state ≡ r → validated r ≡ Some shape
+still_valid shape s h c other r e = subst (λ (t : List ℕ). validated t ≡ Some shape) e (call_valid shape s h c other)
 
 -- what two steps wake together, the whole way wakes
-steps_wake : (shape : Shape) (s : List ℕ) → validated s ≡ lent.Sound shape → Exact shape s → (n m : ℕ) (a b : Bool) → (a ≡ true → Exists shape (record_slot 0 n)) → (b ≡ true → Exists shape (record_slot 0 m))
-    → validated (pulsed_if shape a n s) ≡ lent.Sound shape → validated (pulsed_if shape b m (pulsed_if shape a n s)) ≡ lent.Sound shape
+steps_wake : (shape : Shape) (s : List ℕ) → validated s ≡ Some shape → Exact shape s → (n m : ℕ) (a b : Bool) → (a ≡ true → Exists shape (record_slot 0 n)) → (b ≡ true → Exists shape (record_slot 0 m))
+    → validated (pulsed_if shape a n s) ≡ Some shape → validated (pulsed_if shape b m (pulsed_if shape a n s)) ≡ Some shape
     → bit_or (wake_set shape s (pulsed_if shape a n s)) (wake_set shape (pulsed_if shape a n s) (pulsed_if shape b m (pulsed_if shape a n s))) ≡ wake_set shape s (pulsed_if shape b m (pulsed_if shape a n s))
 steps_wake shape s h exact n m a b en em hr ht =
     let r : List ℕ = pulsed_if shape a n s in
@@ -99,7 +98,7 @@ module _ (first count offset : ℕ) (w : AccessWidth) (value : ℕ) (first' coun
   abbrev other : List ℕ → Outcome
   other = message_there first' count' offset' w' value'
 
-  module _ (shape : Shape) (h : validated s ≡ lent.Sound shape) where
+  module _ (shape : Shape) (h : validated s ≡ Some shape) where
     abbrev n : ℕ
     n = value % 2 ^ 32
 
@@ -119,10 +118,10 @@ module _ (first count offset : ℕ) (w : AccessWidth) (value : ℕ) (first' coun
     other_first = message_comes_to shape s h first' count' offset' w' value'
 
     -- the words stay a state
-    one_valid : validated (pulsed_if shape a n s) ≡ lent.Sound shape
+    one_valid : validated (pulsed_if shape a n s) ≡ Some shape
     one_valid = still_valid shape s h (WriteV2m first count offset w value) refl _ one_first.state
 
-    other_valid : validated (pulsed_if shape b m s) ≡ lent.Sound shape
+    other_valid : validated (pulsed_if shape b m s) ≡ Some shape
     other_valid = still_valid shape s h (WriteV2m first' count' offset' w' value') refl _ other_first.state
 
     other_second : ComesTo shape (pulsed_if shape a n s) (pulsed_if shape b m (pulsed_if shape a n s)) (other (pulsed_if shape a n s))
@@ -158,9 +157,9 @@ module _ (first count offset : ℕ) (w : AccessWidth) (value : ℕ) (first' coun
   pub messages_in_either_order : EitherOrder one other s
   messages_in_either_order = go (validated s) refl
     where
-      go : (l : Lent) → validated s ≡ l → EitherOrder one other s
-      go (lent.Sound shape) e = on_state_lem shape e
-      go lent.Broken e =
+      go : (l : Option Shape) → validated s ≡ l → EitherOrder one other s
+      go (Some shape) e = on_state_lem shape e
+      go None e =
           let first-refused = ap (λ (o : Outcome). o.state) (broken_call (WriteV2m first count offset w value) refl s e).0 in
           let other-refused = ap (λ (o : Outcome). o.state) (broken_call (WriteV2m first' count' offset' w' value') refl s e).0 in
           ap (λ (r : List ℕ). (other r).state) first-refused ∙ other-refused ∙ sym first-refused ∙ sym (ap (λ (r : List ℕ). (one r).state) other-refused)
@@ -192,8 +191,8 @@ module _ (first count offset : ℕ) (w : AccessWidth) (value : ℕ) (s : List �
       c : Call
       c = WriteV2m first count offset w value
 
-      go : (l : Lent) → validated s ≡ l → AddsNothing again s
-      go (lent.Sound shape) e =
+      go : (l : Option Shape) → validated s ≡ l → AddsNothing again s
+      go (Some shape) e =
           let n = value % 2 ^ 32 in
           let b = message_rings shape first count offset w value in
           let r = pulsed_if shape b n s in
@@ -204,7 +203,7 @@ module _ (first count offset : ℕ) (w : AccessWidth) (value : ℕ) (s : List �
             state = ap (λ (t : List ℕ). (again t).state) once.state ∙ twice.state ∙ same ∙ sym once.state;
             wake = ap (λ (t : List ℕ). (again t).wake) once.state ∙ twice.wake ∙ ap (wake_set shape r) same ∙ none_wakes_nobody shape r;
           }
-      go lent.Broken e =
+      go None e =
           let refused = (broken_call c refl s e).0 in
           let stays = ap (λ (o : Outcome). o.state) refused in
           record { state = ap (λ (t : List ℕ). (again t).state) stays; wake = ap (λ (t : List ℕ). (again t).wake) stays ∙ ap (λ (o : Outcome). o.wake) refused }

@@ -1,5 +1,6 @@
 -- Any two writes at bit registers or byte arrays, by any vCPUs and of any widths, that have no interrupt's number in common give the same state in either
 -- order; in any words at all. Assumes nothing.
+use Rattle.std.specs.Prelude.{Option, Some, None}
 use mathlib.Core.Path.{◌≡◌, refl, sym, ap, ◌∙◌}
 use mathlib.Core.Bool.{Bool, true, false, cond, true≢false}
 use mathlib.Core.List.{List}
@@ -23,8 +24,6 @@ use Rattle.register.proofs.Map.{range_starts, range_of_class}
 use Rattle.register.proofs.Ways.{is_single, each_access}
 use Rattle.word.specs.Fields.{field_at}
 use Rattle.state.specs.declared.layout.Shape.{Shape}
-use Rattle.state.specs.declared.lent.Lent.{Lent}
-use Rattle.state.specs.declared.lent.Lent.TheVariants as lent
 use Rattle.state.specs.Layout.{Slot}
 use Rattle.state.specs.Lent.{validated}
 use Rattle.state.specs.Loop.{up_to}
@@ -151,13 +150,13 @@ module _ (v u o o' : ℕ) (w w' : AccessWidth) (p q : Place) (located : locate_d
     state_if true s r t f e d = e
     state_if false s r t f e d = d
 
-    left_is : (s : List ℕ) → validated s ≡ lent.Sound shape → (one s).state ≡ left shape gone s
+    left_is : (s : List ℕ) → validated s ≡ Some shape → (one s).state ≡ left shape gone s
     left_is s h = ap (λ (t : Outcome). t.state) (written v o w p located a s shape h (write_place_looks_up p.class p.private x) refl) ∙ state_if gone s (write_place shape v p w x s) _ _ refl refl
 
-    right_is : (s : List ℕ) → validated s ≡ lent.Sound shape → (other s).state ≡ right shape gone' s
+    right_is : (s : List ℕ) → validated s ≡ Some shape → (other s).state ≡ right shape gone' s
     right_is s h = ap (λ (t : Outcome). t.state) (written u o' w' q located' b s shape h (write_place_looks_up q.class q.private y) refl) ∙ state_if gone' s (write_place shape u q w' y s) _ _ refl refl
 
-    module _ (s : List ℕ) (h : validated s ≡ lent.Sound shape) where
+    module _ (s : List ℕ) (h : validated s ≡ Some shape) where
       either : (j k : Bool) → gone ≡ j → gone' ≡ k → right shape k (left shape j s) ≡ left shape j (right shape k s)
       either true true e d = refl
       either true false e d = refl
@@ -175,12 +174,12 @@ module _ (v u o o' : ℕ) (w w' : AccessWidth) (p q : Place) (located : locate_d
   order : (s : List ℕ) → EitherOrder one other s
   order s = go (validated s) refl
     where
-      go : (held : Lent) → validated s ≡ held → EitherOrder one other s
-      go lent.Broken h =
+      go : (held : Option Shape) → validated s ≡ held → EitherOrder one other s
+      go None h =
           let l : (one s).state ≡ s = ap (λ (t : Outcome). t.state) (broken v o w p located a s h) in
           let r : (other s).state ≡ s = ap (λ (t : Outcome). t.state) (broken u o' w' q located' b s h) in
           ap (λ (k : List ℕ). (other k).state) l ∙ r ∙ sym (ap (λ (k : List ℕ). (one k).state) r ∙ l)
-      go (lent.Sound shape) h = sound_order shape s h
+      go (Some shape) h = sound_order shape s h
 
 -- any two writes at bit registers or byte arrays that have no number in common
 pub writes_in_either_order : (v u o o' : ℕ) (w w' : AccessWidth) (class class' : Class) (at : PlacedAs o w class) (at' : PlacedAs o' w' class') → has_numbers class ≡ true → has_numbers class' ≡ true

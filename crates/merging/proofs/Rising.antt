@@ -1,5 +1,6 @@
 -- States of which one has all that the other has to hand out. Where records only become readier, or only less ready, step by step, the wake sets of the
 -- steps together are the wake set of them all; where they only become less ready it is empty. The summary is exact. Assumes nothing.
+use Rattle.std.specs.Prelude.{Option, Some, None}
 use mathlib.Core.Path.{◌≡◌, refl, sym, ap, ◌∙◌}
 use mathlib.Core.Bool.{Bool, true, false, not, ◌&&◌, ◌||◌, true≢false}
 use mathlib.Core.List.{List}
@@ -8,7 +9,6 @@ use native.Mathlib.Omega.{arith}
 use lib.Bits.{bit_or}
 use lib.Dec.{eqb, ltb}
 use Rattle.interrupt.specs.Record.{is_ready}
-use Rattle.interrupt.specs.declared.record.CpuTargetMask.{CpuTargetMask}
 use Rattle.interrupt.specs.declared.record.InterruptRecord.{InterruptRecord}
 use Rattle.interrupt.specs.declared.types.Priority.{Priority}
 use Rattle.word.specs.Fields.{gathered}
@@ -25,8 +25,6 @@ use Rattle.state.proofs.Ready.{Summed}
 use Rattle.state.proofs.SlotKinds.{record_kind}
 use Rattle.state.proofs.Steps.{slots, Agree, Local, before_last}
 use Rattle.state.proofs.Tests.{left_true, right_true}
-use Rattle.select.specs.declared.Selected.{Selected}
-use Rattle.select.specs.declared.Selected.TheVariants.{Best, Nothing}
 use Rattle.select.specs.Select.{offered, candidate, candidate_by_record, both_on}
 use Rattle.select.proofs.Agree.{candidates_agree}
 use Rattle.select.proofs.Meaning.{best_is}
@@ -38,6 +36,7 @@ use Rattle.wake.specs.Halves.{is_some, ready}
 use Rattle.wake.specs.Wake.{woken, wake_set}
 use Rattle.wake.proofs.Readiness.{preempting_ready, ready_spurious, ready_number}
 use Rattle.merging.proofs.Joined.{gathered_or}
+use Rattle.select.specs.declared.Candidate.{Candidate}
 
 -- one way or the other
 abbrev pub Way : {A : Type 0} → Bool → (A → A → Type 0) → A → A → Type 0
@@ -143,7 +142,7 @@ module _ (shape : Shape) (s r : List ℕ) (h : Sound shape s) (xs : Exact shape 
       let mask = interface_at shape u PriorityMask s in
       let was : (offered u m a && is_ready a && ltb a.priority.0 mask) ≡ true = sym (candidates_agree shape u s xs m below) ∙ chosen in
       let first = left_true (offered u m a && is_ready a) (ltb a.priority.0 mask) was in
-      let for_it : offered u m b ≡ true = ap (λ (k : CpuTargetMask). ltb m 32 || eqb (mask_byte k / 2 ^ u % 2) 1) rise.mask ∙ left_true (offered u m a) (is_ready a) first in
+      let for_it : offered u m b ≡ true = ap (λ (k : Option ℕ). ltb m 32 || eqb (mask_byte k / 2 ^ u % 2) 1) rise.mask ∙ left_true (offered u m a) (is_ready a) first in
       let is_ready_lem : is_ready b ≡ true = rise.ready (right_true (offered u m a) (is_ready a) first) in
       let ahead : ltb b.priority.0 (interface_at shape u PriorityMask r) ≡ true =
       (λ i. ltb (rise.priority i).0 (value_same PriorityMask i)) ∙ right_true (offered u m a && is_ready a) (ltb a.priority.0 mask) was in
@@ -152,9 +151,9 @@ module _ (shape : Shape) (s r : List ℕ) (h : Sound shape s) (xs : Exact shape 
   pub ready_up : ready shape u s ≡ true → ready shape u r ≡ true
   ready_up = unfold ready in go (offer shape u s) refl
     where
-      go : (o : Selected) → offer shape u s ≡ o → is_some o ≡ true → ready shape u r ≡ true
-      go Nothing p e = absurd (true≢false (sym e))
-      go (Best c) p e =
+      go : (o : Option Candidate) → offer shape u s ≡ o → is_some o ≡ true → ready shape u r ≡ true
+      go None p e = absurd (true≢false (sym e))
+      go (Some c) p e =
           let is = offer_is shape u s c p in
           let best = best_is shape u s c is.best_one in
           let m = c.intid.0 in

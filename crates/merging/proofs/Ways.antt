@@ -1,5 +1,6 @@
 -- Which way a write goes: set-enable, set-pending and clear-active only make records readier, clear-enable, clear-pending and set-active only less ready,
 -- ICFGR does neither; and so with SPENDSGIR and CPENDSGIR. The summary is exact, and stays so. Assumes nothing.
+use Rattle.std.specs.Prelude.{None}
 use mathlib.Core.Path.{◌≡◌, refl, sym, ap, subst, ◌∙◌}
 use mathlib.Core.Bool.{Bool, true, false, not, cond, ◌&&◌, ◌||◌, true≢false}
 use mathlib.Core.List.{List}
@@ -11,7 +12,6 @@ use borrow.Author.Tests.{ne_eqb, ltb-true}
 use Rattle.interrupt.specs.Types.{every_vcpu, is_level}
 use Rattle.interrupt.specs.Record.{set_enabled, held, set_pending, set_active, cancel_inflight, set_trigger, set_owner}
 use Rattle.interrupt.specs.declared.record.InterruptRecord.{InterruptRecord}
-use Rattle.interrupt.specs.declared.record.Owner.TheVariants.{Nobody}
 use Rattle.register.specs.declared.ranges.BitRegister.{BitRegister}
 use Rattle.register.specs.declared.ranges.BitRegister.TheVariants.{Igroupr, Isenabler, Icenabler, Ispendr, Icpendr, Isactiver, Icactiver, Icfgr}
 use Rattle.word.specs.Fields.{field_at}
@@ -68,7 +68,7 @@ cleared_rises : (r : InterruptRecord) → Rises r (clear_active r)
 unfolding clear_active set_owner cancel_inflight set_active
 cleared_rises r = go r.inflight
   where
-    go : (b : Bool) → Rises r (cond b (set_owner (cancel_inflight (set_active r false)) Nobody) (set_active r false))
+    go : (b : Bool) → Rises r (cond b (set_owner (cancel_inflight (set_active r false)) None) (set_active r false))
     go true = record {
       ready = λ h. let m = made_true r.enabled r.pending r.active h in ready_of r.enabled (r.pending || r.redelivery_pending) false m.0 (noted_pends r.pending r.redelivery_pending m.1.0) refl;
       priority = refl;

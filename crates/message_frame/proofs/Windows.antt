@@ -1,4 +1,5 @@
 -- What a window that was tested says of its numbers: they fit TYPER's fields, and each is an SPI of this controller. Assumes nothing.
+use Rattle.std.specs.Prelude.{Option, Some, None}
 use mathlib.Core.Path.{◌≡◌, refl, sym, subst, ◌∙◌}
 use mathlib.Core.Bool.{Bool, true, false, cond, false≢true}
 use mathlib.Core.List.{List}
@@ -7,15 +8,11 @@ use native.Mathlib.Omega.{arith}
 use lib.Dec.{leb, ltb}
 use borrow.Author.Tests.{leb-true, ltb-true, ltb-false, le-leb, lt-ltb, le-ltb}
 use Rattle.state.specs.declared.layout.Shape.{Shape}
-use Rattle.state.specs.declared.lent.Lent.{Lent}
-use Rattle.state.specs.declared.lent.Lent.TheVariants as lent
 use Rattle.state.specs.Lent.{validated}
 use Rattle.state.specs.Words.{RecordThere}
 use Rattle.state.proofs.Tests.{left_true, right_true}
 use Rattle.answer.proofs.Present.{found_sound}
 use Rattle.message_frame.specs.declared.Window.{Window}
-use Rattle.message_frame.specs.declared.DecodedWindow.{DecodedWindow}
-use Rattle.message_frame.specs.declared.DecodedWindow.TheVariants.{Valid, Outside}
 use Rattle.message_frame.specs.declared.MessageRegister.{MessageRegister}
 use Rattle.message_frame.specs.declared.MessageRegister.TheVariants.{Typer, Setspi, Other}
 use Rattle.message_frame.specs.MessageFrame.{is_window, window_of, decoded_window, in_window, rings_spi}
@@ -32,20 +29,20 @@ window_spis shape first count e = record {
   end = leb-true (first + count) shape.limit (right_true (leb 1 count) _ (right_true (leb 32 first) _ e));
 }
 
-abbrev Tested : Shape → DecodedWindow → Type 0
-Tested shape (Valid window) = Spis shape window
-Tested shape Outside = Unit
+abbrev Tested : Shape → Option Window → Type 0
+Tested shape (Some window) = Spis shape window
+Tested shape None = Unit
 
-decoded_spis : (shape : Shape) (first count : ℕ) (window : Window) → decoded_window shape first count ≡ Valid window → Spis shape window
+decoded_spis : (shape : Shape) (first count : ℕ) (window : Window) → decoded_window shape first count ≡ Some window → Spis shape window
 unfolding decoded_window
 decoded_spis shape first count window p = subst (Tested shape) p (go (is_window shape first count) refl)
   where
-    go : (b : Bool) → is_window shape first count ≡ b → Tested shape (cond b (Valid (window_of first count)) Outside)
+    go : (b : Bool) → is_window shape first count ≡ b → Tested shape (cond b (Some (window_of first count)) None)
     go true e = window_spis shape first count e
     go false e = tt
 
-module _ (s : List ℕ) (held : Lent) (e : held ≡ validated s) (shape : Shape) (h : held ≡ lent.Sound shape) (first count : ℕ) (seen : DecodedWindow) (d : seen ≡ decoded_window shape first count)
-    (window : Window) (q : seen ≡ Valid window) where
+module _ (s : List ℕ) (held : Option Shape) (e : held ≡ validated s) (shape : Shape) (h : held ≡ Some shape) (first count : ℕ) (seen : Option Window) (d : seen ≡ decoded_window shape first count)
+    (window : Window) (q : seen ≡ Some window) where
   it : Spis shape window
   it = decoded_spis shape first count window (sym d ∙ q)
 

@@ -1,6 +1,6 @@
 -- The message-signalled frame: document 02, Seven: "a GICv2m frame of 0x1000 bytes beside the Distributor". "The window is a first number and a
 -- count that the caller gives with each call; it is in no state or image." "No vCPU is looked up."
-use Rattle.std.specs.Prelude.{◌≡◌, Bool, true, false, cond, ◌&&◌, List, ℕ, ◌+◌, ◌*◌, ◌%◌, ◌^◌, eqb, leb, ltb}
+use Rattle.std.specs.Prelude.{◌≡◌, Bool, true, false, cond, ◌&&◌, List, ℕ, ◌+◌, ◌*◌, ◌%◌, ◌^◌, eqb, leb, ltb, Option, Some, None, Result, Ok, Err}
 use Rattle.interrupt.specs.Record as record_of
 use Rattle.register.specs.declared.frame.AccessWidth.{AccessWidth}
 use Rattle.register.specs.declared.frame.Refusal.TheVariants as refusal
@@ -8,15 +8,11 @@ use Rattle.register.specs.Frame.{is_dword, in_frame}
 use Rattle.state.specs.declared.layout.Shape.{Shape}
 use Rattle.state.specs.Lent.{validated}
 use Rattle.state.specs.Words.{changed}
-use Rattle.answer.specs.declared.Answer.{Answer}
-use Rattle.answer.specs.Answer.{Outcome, outcome, refused, gave, went, on_state}
+use Rattle.answer.specs.Answer.{Answer, Outcome, outcome, refused, gave, went, on_state}
 use Rattle.message_frame.specs.declared.Window.{Window}
-use Rattle.message_frame.specs.declared.DecodedWindow.{DecodedWindow}
-use Rattle.message_frame.specs.declared.DecodedWindow.TheVariants.{Valid, Outside}
 use Rattle.message_frame.specs.declared.MessageRegister.{MessageRegister}
 use Rattle.message_frame.specs.declared.MessageRegister.TheVariants.{Typer, Setspi, Other}
-use Rattle.message_frame.specs.declared.MessageAccess.{MessageAccess}
-use Rattle.message_frame.specs.declared.MessageAccess.TheVariants.{Refused, At}
+use Rattle.register.specs.declared.frame.Refusal.{Refusal}
 
 -- "It lies from 32 up to, not including, the limit and has at least one number": numbers here do not overflow, and an end past 2^64 passes
 -- every limit
@@ -26,13 +22,13 @@ is_window shape first count = leb 32 first && (leb 1 count && leb (first + count
 abbrev pub window_of : ℕ → ℕ → Window
 window_of first count = record { first = record { 0 = first }; count = count }
 
-unfoldable pub decoded_window : Shape → ℕ → ℕ → DecodedWindow
-decoded_window shape first count = cond (is_window shape first count) (Valid (window_of first count)) Outside
+unfoldable pub decoded_window : Shape → ℕ → ℕ → Option Window
+decoded_window shape first count = cond (is_window shape first count) (Some (window_of first count)) None
 
 -- "11, after 6 and before 1 and 2, for a window that breaks these limits"
-abbrev pub on_window : DecodedWindow → List ℕ → (Window → Outcome) → Outcome
-on_window Outside s f = refused refusal.Window s
-on_window (Valid window) s f = f window
+abbrev pub on_window : Option Window → List ℕ → (Window → Outcome) → Outcome
+on_window None s f = refused refusal.Window s
+on_window (Some window) s f = f window
 
 -- "TYPER at 0x008 .., SETSPI at 0x040"; "a start further in is an other place"
 abbrev pub message_register_at : ℕ → MessageRegister
@@ -45,11 +41,11 @@ takes_width Setspi width = is_dword width
 takes_width Other width = true
 
 -- an access, by its offset and width alone: 1, then 2
-unfoldable pub locate_v2m : ℕ → AccessWidth → MessageAccess
+unfoldable pub locate_v2m : ℕ → AccessWidth → Result MessageRegister Refusal
 locate_v2m offset width =
     cond (in_frame 0x1000 offset width)
-    (cond (takes_width (message_register_at offset) width) (At (message_register_at offset)) (Refused refusal.Width))
-    (Refused refusal.Access)
+    (cond (takes_width (message_register_at offset) width) (Ok (message_register_at offset)) (Err refusal.Width))
+    (Err refusal.Access)
 
 -- "TYPER .. with the first SPI in bits 25:16 and how many in bits 9:0"
 abbrev pub typer_of : Window → ℕ
@@ -79,13 +75,13 @@ write_message shape window register n s = cond (rings_spi window register n) (ch
 abbrev pub wrote_message : Shape → Window → MessageRegister → ℕ → List ℕ → Outcome
 wrote_message shape window register n s = went shape 1023 s (write_message shape window register n s)
 
-abbrev pub read_message_access : Window → MessageAccess → List ℕ → Outcome
-read_message_access window (Refused r) s = refused r s
-read_message_access window (At register) s = gave (read_message window register) s
+abbrev pub read_message_access : Window → Result MessageRegister Refusal → List ℕ → Outcome
+read_message_access window (Err r) s = refused r s
+read_message_access window (Ok register) s = gave (read_message window register) s
 
-abbrev pub write_message_access : Shape → Window → MessageAccess → ℕ → List ℕ → Outcome
-write_message_access shape window (Refused r) n s = refused r s
-write_message_access shape window (At register) n s = wrote_message shape window register n s
+abbrev pub write_message_access : Shape → Window → Result MessageRegister Refusal → ℕ → List ℕ → Outcome
+write_message_access shape window (Err r) n s = refused r s
+write_message_access shape window (Ok register) n s = wrote_message shape window register n s
 
 unfoldable pub read_v2m : ℕ → ℕ → ℕ → AccessWidth → List ℕ → Outcome
 read_v2m first count offset width s =

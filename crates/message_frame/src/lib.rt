@@ -11,27 +11,17 @@ ghost use Rattle.message_frame.specs.Framing.{FitsTyper, Framed};
 use answer::{Answer, gave};
 use input::{Signal, signal_interrupt};
 use interrupt::{GicVcpuId, IntId};
-use register::{AccessWidth, Refusal, validate_frame_access};
+use register::{AccessWidth, Refusal, register_value, validate_frame_access};
+use state::Shape;
 use state::lent::validate_state;
-use state::{Lent, Shape};
 
 const V2M_SIZE: u64 = 0x1000;
-
-// How many values 32 bits have: no register takes more.
-const REGISTER_VALUES: u64 = 0x1_0000_0000;
 
 // The SPIs that a frame rings: the first number, and how many.
 #[derive(Clone, Copy)]
 pub struct Window {
     pub first: IntId,
     pub count: u32,
-}
-
-// What a caller's two numbers are: a window, or none.
-#[derive(Clone, Copy)]
-pub enum DecodedWindow {
-    Valid(Window),
-    Outside,
 }
 
 #[derive(Clone, Copy)]
@@ -41,32 +31,17 @@ pub enum MessageRegister {
     Other,
 }
 
-#[derive(Clone, Copy)]
-pub enum MessageAccess {
-    Refused(Refusal),
-    At(MessageRegister),
-}
-
 impl Window {
-    // The end is compared as the room left, so that numbers near 2^64 wrap nothing.
+    // A caller's two numbers, where they are a window. The end is compared as the room left, so that numbers near 2^64 wrap nothing.
     #[tactic(auto, unfolding(crate::specs::MessageFrame::decoded_window))]
-    pub fn new(shape: Shape, first: u64, count: u64) -> DecodedWindow
+    pub fn new(shape: Shape, first: u64, count: u64) -> Option<Window>
         ensures { result ≡ decoded_window shape first count }
     {
-        let limit = shape.limit as u64;
-        if first < 32 {
-            return DecodedWindow::Outside;
+        let limit = u64::from(shape.limit);
+        if first < 32 || count < 1 || limit < first || limit - first < count {
+            return None;
         }
-        if count < 1 {
-            return DecodedWindow::Outside;
-        }
-        if limit < first {
-            return DecodedWindow::Outside;
-        }
-        if limit - first < count {
-            return DecodedWindow::Outside;
-        }
-        DecodedWindow::Valid(Window {
+        Some(Window {
             first: IntId(first as u32),
             count: count as u32,
         })
@@ -75,11 +50,7 @@ impl Window {
     fn contains(self, number: u32) -> bool
         ensures { result ≡ in_window self number }
     {
-        let first = self.first.0;
-        if number < first {
-            return false;
-        }
-        number - first < self.count
+        self.first.0 <= number && number - self.first.0 < self.count
     }
 
     fn typer(self) -> u32
@@ -105,24 +76,24 @@ impl MessageRegister {
         ensures { result ≡ takes_width self width }
     {
         match self {
-            MessageRegister::Typer => width.is_dword(),
-            MessageRegister::Setspi => width.is_dword(),
+            MessageRegister::Typer | MessageRegister::Setspi => width.is_dword(),
             MessageRegister::Other => true,
         }
     }
 }
 
-fn locate_v2m(offset: u64, width: AccessWidth) -> MessageAccess
+#[tactic(auto, unfolding(crate::specs::MessageFrame::locate_v2m))]
+fn locate_v2m(offset: u64, width: AccessWidth) -> Result<MessageRegister, Refusal>
     ensures { result ≡ locate_v2m offset width }
 {
     if !validate_frame_access(V2M_SIZE, offset, width) {
-        return MessageAccess::Refused(Refusal::Access);
+        return Err(Refusal::Access);
     }
     let register = MessageRegister::at(offset);
     if register.takes_width(width) {
-        MessageAccess::At(register)
+        Ok(register)
     } else {
-        MessageAccess::Refused(Refusal::Width)
+        Err(Refusal::Width)
     }
 }
 
@@ -132,24 +103,18 @@ fn read_register(window: Window, register: MessageRegister) -> u32
 {
     match register {
         MessageRegister::Typer => window.typer(),
-        MessageRegister::Setspi => 0,
-        MessageRegister::Other => 0,
+        MessageRegister::Setspi | MessageRegister::Other => 0,
     }
 }
 
+#[tactic(auto, unfolding(crate::specs::MessageFrame::read_v2m))]
 pub fn read_v2m(words: &[u32], first: u64, count: u64, offset: u64, width: AccessWidth) -> Answer
     ensures { ReadV2mPromise first count offset width words.now result words.now }
 {
-    let Lent::Sound(shape) = validate_state(words) else {
-        return Answer::Refused(Refusal::BrokenState);
-    };
-    let DecodedWindow::Valid(window) = Window::new(shape, first, count) else {
-        return Answer::Refused(Refusal::Window);
-    };
-    match locate_v2m(offset, width) {
-        MessageAccess::Refused(refusal) => Answer::Refused(refusal),
-        MessageAccess::At(register) => gave(read_register(window, register)),
-    }
+    let shape = validate_state(words).ok_or(Refusal::BrokenState)?;
+    let window = Window::new(shape, first, count).ok_or(Refusal::Window)?;
+    let register = locate_v2m(offset, width)?;
+    gave(read_register(window, register))
 }
 
 // An SPI is no vCPU's own, so that any number would do for the vCPU.
@@ -175,12 +140,12 @@ fn write_register(
     ensures { outcome result words.new ≡ wrote_message shape window register value words.old }
 {
     match register {
-        MessageRegister::Typer => gave(0),
         MessageRegister::Setspi => ring(words, shape, window, value),
-        MessageRegister::Other => gave(0),
+        MessageRegister::Typer | MessageRegister::Other => gave(0),
     }
 }
 
+#[tactic(auto, unfolding(crate::specs::MessageFrame::write_v2m))]
 pub fn write_v2m(
     words: &mut [u32],
     first: u64,
@@ -191,22 +156,9 @@ pub fn write_v2m(
 ) -> Answer
     ensures { WriteV2mPromise first count offset width value words.old result words.new }
 {
-    let Lent::Sound(shape) = validate_state(words) else {
-        return Answer::Refused(Refusal::BrokenState);
-    };
-    let DecodedWindow::Valid(window) = Window::new(shape, first, count) else {
-        return Answer::Refused(Refusal::Window);
-    };
-    match locate_v2m(offset, width) {
-        MessageAccess::Refused(refusal) => Answer::Refused(refusal),
-        MessageAccess::At(register) => {
-            write_register(
-                words,
-                shape,
-                window,
-                register,
-                (value % REGISTER_VALUES) as u32,
-            )
-        }
-    }
+    let shape = validate_state(words).ok_or(Refusal::BrokenState)?;
+    let window = Window::new(shape, first, count).ok_or(Refusal::Window)?;
+    let register = locate_v2m(offset, width)?;
+    let bits = register_value(value);
+    write_register(words, shape, window, register, bits)
 }

@@ -1,4 +1,5 @@
 -- Every change of one record keeps what a lawful state asks of it: one clause for each transition. Assumes nothing.
+use Rattle.std.specs.Prelude.{None}
 use mathlib.Core.Path.{◌≡◌, refl, sym, subst, ◌∙◌}
 use mathlib.Core.Bool.{Bool, true, false, not, cond, ◌&&◌, ◌||◌, true≢false, false≢true}
 use Prim.Native.Nat.{ℕ, ◌≤◌, ◌<◌}
@@ -7,7 +8,6 @@ use native.Mathlib.Omega.{arith}
 use lib.Pow.{pow_mono}
 use borrow.Author.Tests.{not-true}
 use Rattle.interrupt.specs.declared.record.InterruptRecord.{InterruptRecord}
-use Rattle.interrupt.specs.declared.record.Owner.TheVariants.{Nobody}
 use Rattle.interrupt.specs.Record.{set_enabled, set_pending, set_active, cancel_inflight, set_priority, set_trigger, set_cpu_target_mask, set_owner, set_state, set_level, pulse, complete, clear_delivery_state, mark_inflight, synchronize_inflight, deactivate_inflight, held, rises_in_service, falls_idle}
 use Rattle.word.specs.Word.{InRange}
 use Rattle.state.specs.declared.layout.Shape.{Shape}
@@ -75,7 +75,7 @@ module _ {shape : Shape} {v n : ℕ} {r : InterruptRecord} (h : Fine shape v n r
   }
 
   -- .. or if it is no longer in flight, and nobody's
-  idled : (q : InterruptRecord) → q.inflight ≡ false → q.redelivery_pending ≡ false → q.owner ≡ Nobody
+  idled : (q : InterruptRecord) → q.inflight ≡ false → q.redelivery_pending ≡ false → q.owner ≡ None
       → (n < 16 → q.line_asserted ≡ r.line_asserted) → q.trigger ≡ r.trigger → q.cpu_target_mask ≡ r.cpu_target_mask → Fine shape v n q
   idled q i d o l t m = record {
     orderly = record {

@@ -1,9 +1,9 @@
 -- Which slots a move touches: every other slot stays, and so does the room, in any words that pass the test of refusal 6. Assumes nothing.
+use Rattle.std.specs.Prelude.{Some}
 use mathlib.Core.Path.{◌≡◌, refl, sym, subst, ◌∙◌}
 use mathlib.Core.Bool.{true, false, not, true≢false}
 use mathlib.Core.List.{List}
 use mathlib.Core.Logic.{◌⊎◌, inl, inr}
-use mathlib.Core.Option.{some}
 use Prim.Native.Nat.{ℕ, ◌-◌, ◌<◌}
 use native.Mathlib.Omega.{arith}
 use lib.Dec.{eqb}
@@ -45,8 +45,8 @@ each_stack v P depth entries t (inr e) = subst P (sym e.is) (entries e.index)
 pub off_stack : (v : ℕ) (t : Slot) → on_stack t ≡ false → StackOf v t → ⊥
 off_stack v t off p = true≢false (sym (each_stack v (λ x. on_stack x ≡ true) refl (λ i. refl) t p) ∙ off)
 
-pub stack_vcpu : (v u : ℕ) (t : Slot) → vcpu_of t ≡ some u → StackOf v t → u ≡ v
-stack_vcpu v u t own p = let e : some v ≡ some u = sym (each_stack v (λ x. vcpu_of x ≡ some v) refl (λ i. refl) t p) ∙ own in cc
+pub stack_vcpu : (v u : ℕ) (t : Slot) → vcpu_of t ≡ Some u → StackOf v t → u ≡ v
+stack_vcpu v u t own p = let e : Some v ≡ Some u = sym (each_stack v (λ x. vcpu_of x ≡ Some v) refl (λ i. refl) t p) ∙ own in cc
 
 abbrev pub Touches : Move → Slot → Type 0
 Touches (Changed v n c) t = t ≡ record_slot v n

@@ -1,10 +1,9 @@
 -- The moves: what a call does to the state it does in small steps, each a change of one thing by name. Every call is a chain of these, and
 -- what each of them keeps every history keeps; so a new register, frame or input adds a move at most. How the proofs go about it: the
 -- promises speak of calls, and a reader need not believe any of this.
-use Rattle.std.specs.Prelude.{◌≡◌, Bool, true, false, not, List, ℕ, ◌^◌, ◌≤◌, ◌<◌, eqb}
+use Rattle.std.specs.Prelude.{◌≡◌, Bool, true, false, not, List, ℕ, ◌^◌, ◌≤◌, ◌<◌, eqb, Some, None}
 use Rattle.interrupt.specs.declared.types.TriggerMode.{TriggerMode}
 use Rattle.interrupt.specs.declared.record.InterruptRecord.{InterruptRecord}
-use Rattle.interrupt.specs.declared.record.Owner.TheVariants.{Nobody}
 use Rattle.interrupt.specs.Record.{set_enabled, set_pending, set_active, cancel_inflight, set_priority, set_trigger, set_cpu_target_mask, set_owner, set_level, pulse, complete, clear_delivery_state}
 use Rattle.state.specs.declared.layout.Shape.{Shape}
 use Rattle.state.specs.declared.layout.InterfaceValue.{InterfaceValue}
@@ -12,7 +11,6 @@ use Rattle.state.specs.Layout.{Interface, on_stack, stack_capacity}
 use Rattle.state.specs.Words.{RecordThere, record_at, changed, sources_at, with_sources, with_interface, with_distributor_control}
 use Rattle.sgi.specs.Sgi.{merged_sources}
 use Rattle.select.specs.declared.Candidate.{Candidate}
-use Rattle.select.specs.declared.Selected.TheVariants.{Best}
 use Rattle.service.specs.Service.{depth_at, popped}
 use Rattle.acknowledge.specs.Acknowledge.{offer, given}
 use Rattle.end.specs.End.{served_here, only_active, retire}
@@ -36,7 +34,7 @@ abbrev pub becomes : Change → InterruptRecord → InterruptRecord
 becomes (SetEnabled e) r = set_enabled r e
 becomes (SetPending p) r = set_pending r p
 becomes (SetActive a) r = set_active r a
-becomes CancelInflight r = set_owner (cancel_inflight (set_active r false)) Nobody
+becomes CancelInflight r = set_owner (cancel_inflight (set_active r false)) None
 becomes (SetTrigger t) r = set_trigger r t
 becomes (SetPriority q) r = set_priority r (record { 0 = q })
 becomes (SetCpuTargetMask m) r = set_cpu_target_mask r m
@@ -44,7 +42,7 @@ becomes (SetLevel a) r = set_level r a
 becomes Pulse r = pulse r
 becomes DeactivateInflight r = retire r
 becomes Complete r = complete r
-becomes ClearDeliveryState r = set_owner (clear_delivery_state r) Nobody
+becomes ClearDeliveryState r = set_owner (clear_delivery_state r) None
 
 -- when it is done to the record r of the number n by the vCPU v
 abbrev pub Fits : Shape → ℕ → ℕ → Change → InterruptRecord → Type 0
@@ -104,7 +102,7 @@ pub record Keeping (shape : Shape) (v : ℕ) (k : InterfaceValue) : Type 0 where
 
 pub record Giving (shape : Shape) (v : ℕ) (c : Candidate) (s : List ℕ) : Type 0 where
   pub exists : v < shape.count
-  pub offered : offer shape v s ≡ Best c
+  pub offered : offer shape v s ≡ Some c
   pub room : depth_at shape v s < stack_capacity
 
 pub record Popping (shape : Shape) (v : ℕ) (s : List ℕ) : Type 0 where

@@ -1,4 +1,5 @@
 -- The numbers of a record and the record made of them, on both ways: its flags, its owner and its mask. Assumes nothing.
+use Rattle.std.specs.Prelude.{Option, Some, None}
 use mathlib.Core.Path.{◌≡◌, refl, sym, ap, ◌∙◌}
 use mathlib.Core.Bool.{Bool, true, false, not, cond}
 use mathlib.Core.List.{List, [], ◌∷◌}
@@ -7,37 +8,34 @@ use native.Mathlib.Omega.{arith}
 use lib.Dec.{eqb}
 use borrow.Author.Tests.{eqb-true, eqb-false, ne_eqb}
 use Rattle.interrupt.specs.Types.{is_level}
-use Rattle.interrupt.specs.declared.record.CpuTargetMask.{CpuTargetMask}
-use Rattle.interrupt.specs.declared.record.CpuTargetMask.TheVariants.{Unset, Mask}
 use Rattle.interrupt.specs.declared.record.InterruptRecord.{InterruptRecord}
-use Rattle.interrupt.specs.declared.record.Owner.{Owner}
-use Rattle.interrupt.specs.declared.record.Owner.TheVariants.{Nobody, Vcpu}
 use Rattle.word.specs.Fields.{Field, bits, field, packed}
 use Rattle.word.specs.Word.{flag, trigger_of, owner_of, bit_of, mask_byte}
 use Rattle.word.proofs.Fields.{Fit, breadth, at, place, packed_fits, field_packed, fields_from, sum, packed_fields}
 use Rattle.word.proofs.RecordWord.{trigger_back, bit_fits, bit_back, bit_again, trigger_again}
 use Rattle.image.specs.Image.{flags_number, owner_number, mask_number, unset_mark}
 use Rattle.load.specs.Reading.{record_from, mask_from}
+use Rattle.interrupt.specs.declared.types.GicVcpuId.{GicVcpuId}
 
-pub owner_back : (o : Owner) → owner_of (owner_number o) ≡ o
-owner_back Nobody = refl
-owner_back (Vcpu v) = let same : v.0 + 1 - 1 ≡ v.0 = omega arith in simp (ne_eqb (v.0 + 1) 0 (λ e. omega arith), same)
+pub owner_back : (o : Option GicVcpuId) → owner_of (owner_number o) ≡ o
+owner_back None = refl
+owner_back (Some v) = let same : v.0 + 1 - 1 ≡ v.0 = omega arith in simp (ne_eqb (v.0 + 1) 0 (λ e. omega arith), same)
 
 pub owner_again : (x : ℕ) → owner_number (owner_of x) ≡ x
 owner_again x = go (eqb x 0) refl
   where
-    go : (b : Bool) → eqb x 0 ≡ b → owner_number (cond b Nobody (Vcpu (record { 0 = x - 1 }))) ≡ x
+    go : (b : Bool) → eqb x 0 ≡ b → owner_number (cond b None (Some (record { 0 = x - 1 }))) ≡ x
     go true e = sym (eqb-true x 0 e)
     go false e = let n : x ≡ 0 → ⊥ = eqb-false x 0 e in omega arith
 
-pub mask_back : (m : CpuTargetMask) → mask_byte m < 2 ^ 8 → mask_from (mask_number m) ≡ m
-mask_back Unset h = refl
-mask_back (Mask byte) h = simp (ne_eqb byte unset_mark (λ e. omega arith))
+pub mask_back : (m : Option ℕ) → mask_byte m < 2 ^ 8 → mask_from (mask_number m) ≡ m
+mask_back None h = refl
+mask_back (Some byte) h = simp (ne_eqb byte unset_mark (λ e. omega arith))
 
 pub mask_again : (x : ℕ) → mask_number (mask_from x) ≡ x
 mask_again x = go (eqb x unset_mark) refl
   where
-    go : (b : Bool) → eqb x unset_mark ≡ b → mask_number (cond b Unset (Mask x)) ≡ x
+    go : (b : Bool) → eqb x unset_mark ≡ b → mask_number (cond b None (Some x)) ≡ x
     go true e = sym (eqb-true x unset_mark e)
     go false e = refl
 
@@ -75,7 +73,7 @@ unfolding flags_of breadth
 flags_fit r = rw (flags_packed r) (packed_fits (flags_of r) (flags_bits r))
 
 -- the record that the numbers say
-module _ (f p : ℕ) (owner : Owner) (mask : CpuTargetMask) where
+module _ (f p : ℕ) (owner : Option GicVcpuId) (mask : Option ℕ) where
   again : (k : ℕ) → bit_of (flag k f) ≡ field k 1 f
   again k = bit_again (field k 1 f) (omega arith)
 

@@ -8,8 +8,7 @@ use native.Mathlib.Omega.{arith}
 use lib.Dec.{leb}
 use lib.ListN.{length, drop, length-append}
 use borrow.Author.Tests.{le-leb}
-use Rattle.groups.specs.declared.Found.{Found}
-use Rattle.groups.specs.declared.Found.TheVariants.{Number, Refused}
+use Rattle.std.specs.Prelude.{Option, Some, None}
 use Rattle.groups.specs.Groups.{groups, spelled, found_at}
 use Rattle.groups.proofs.Numbers.{spelled_append}
 use Rattle.groups.proofs.Reading.{drop_past, found_reads, Stands, found_exact}
@@ -67,9 +66,9 @@ row_each {image} {at} {next} f (suc n) p i h =
     last_or i n h (λ e. rw (e, ← p.past) two.rest) (λ below. row_each {next = at + length (spelled (each f n))} f n two.first i below)
 
 -- a row's first number, as it is found, and the row past it
-pub record First (image : List ℕ) (it : Found) (next n : ℕ) (ns : List ℕ) : Type 0 where
+pub record First (image : List ℕ) (it : Option (ℕ × ℕ)) (next n : ℕ) (ns : List ℕ) : Type 0 where
   pub place : ℕ
-  pub found : it ≡ Number n place
+  pub found : it ≡ Some (n, place)
   pub rest : Row image place next ns
 
 pub row_first : {image : List ℕ} {at next n : ℕ} {ns : List ℕ} → n < 16384 → Row image at next (n ∷ ns) → First image (found_at 2 image at) next n ns
@@ -101,15 +100,15 @@ row_cons {image} {at} {place} {next} {n} {ns} p q = record {
 }
 
 -- no number is found, or one of which Q holds
-pub data Shows (Q : ℕ → ℕ → Type 0) : Found → Type 0 where
-  none : Shows Q Refused
-  some : {n place : ℕ} → Q n place → Shows Q (Number n place)
+pub data Shows (Q : ℕ → ℕ → Type 0) : Option (ℕ × ℕ) → Type 0 where
+  none : Shows Q None
+  some : {n place : ℕ} → Q n place → Shows Q (Some (n, place))
 
-pub shown : {Q : ℕ → ℕ → Type 0} {n place : ℕ} → Shows Q (Number n place) → Q n place
+pub shown : {Q : ℕ → ℕ → Type 0} {n place : ℕ} → Shows Q (Some (n, place)) → Q n place
 shown (some q) = q
 
 -- what is read after it: P of nothing, or of what follows such a number
-pub onward : {A : Type 0} {Q : ℕ → ℕ → Type 0} {it : Found} (P : A → Type 0) (nothing : A) (f : ℕ → ℕ → A) → P nothing → Shows Q it → ((n place : ℕ) → Q n place → P (f n place))
+pub onward : {A : Type 0} {Q : ℕ → ℕ → Type 0} {it : Option (ℕ × ℕ)} (P : A → Type 0) (nothing : A) (f : ℕ → ℕ → A) → P nothing → Shows Q it → ((n place : ℕ) → Q n place → P (f n place))
     → P (then_number nothing it f)
 onward P nothing f refused none go = refused
 onward P nothing f refused (some {n} {place} q) go = go n place q
@@ -117,9 +116,9 @@ onward P nothing f refused (some {n} {place} q) go = go n place q
 pub found_shows : (image : List ℕ) (at : ℕ) → Shows (Stands image at) (found_at 2 image at)
 found_shows image at = go (found_at 2 image at) refl
   where
-    go : (it : Found) → found_at 2 image at ≡ it → Shows (Stands image at) it
-    go Refused e = none
-    go (Number n place) e = some (found_exact image at n place e)
+    go : (it : Option (ℕ × ℕ)) → found_at 2 image at ≡ it → Shows (Stands image at) it
+    go None e = none
+    go (Some (n, place)) e = some (found_exact image at n place e)
 
 -- a number that passes a test
 pub record Passing (test : ℕ → Bool) (image : List ℕ) (at n place : ℕ) : Type 0 where
@@ -129,11 +128,11 @@ pub record Passing (test : ℕ → Bool) (image : List ℕ) (at n place : ℕ) :
 pub passing_shows : (test : ℕ → Bool) (image : List ℕ) (at : ℕ) → Shows (Passing test image at) (passing test (found_at 2 image at))
 passing_shows test image at = go (found_shows image at)
   where
-    go : {it : Found} → Shows (Stands image at) it → Shows (Passing test image at) (passing test it)
+    go : {it : Option (ℕ × ℕ)} → Shows (Stands image at) it → Shows (Passing test image at) (passing test it)
     go none = none
     go (some {n} {place} stands) = pick (test n) refl
       where
-        pick : (b : Bool) → test n ≡ b → Shows (Passing test image at) (cond b (Number n place) Refused)
+        pick : (b : Bool) → test n ≡ b → Shows (Passing test image at) (cond {A = Option (ℕ × ℕ)} b (Some (n, place)) None)
         pick false p = none
         pick true p = some (record { passes = p; stands = stands })
 

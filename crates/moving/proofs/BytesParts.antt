@@ -10,8 +10,6 @@ use lib.ListN.{length, drop}
 use borrow.Author.Tests.{ltb-true, lt-ltb}
 use Rattle.groups.specs.Groups.{spelled}
 use Rattle.interrupt.specs.declared.record.InterruptRecord.{InterruptRecord}
-use Rattle.interrupt.specs.declared.record.Owner.{Owner}
-use Rattle.interrupt.specs.declared.record.Owner.TheVariants.{Nobody, Vcpu}
 use Rattle.word.specs.Word.{InRange}
 use Rattle.word.proofs.RecordWord.{decoded_in_range}
 use Rattle.state.specs.declared.layout.Shape.{Shape}
@@ -24,18 +22,18 @@ use Rattle.lawful_test.specs.LawfulTest.{implied, record_lawful, sources_lawful,
 use Rattle.lawful_test.proofs.Passing.{Passed, passes_record}
 use Rattle.image.specs.Parts.{Part, Registers, Service, Interrupt, interrupt_numbers, part_numbers, PartThere}
 use Rattle.image.specs.Image.{owner_number, record_numbers}
-use Rattle.load.specs.declared.reading.FoundRegisters.{FoundRegisters}
-use Rattle.load.specs.declared.reading.FoundRegisters.TheVariants as registers
-use Rattle.load.specs.declared.reading.FoundRecord.{FoundRecord}
-use Rattle.load.specs.declared.reading.FoundRecord.TheVariants as records
-use Rattle.load.specs.declared.walking.Place.TheVariants.{At}
-use Rattle.load.specs.Reading.{own_owner, lawful_number}
+use Rattle.std.proofs.lemmas.Option.{some_pair_parts}
+use Rattle.std.specs.Prelude.{Some, Option, None}
+use Rattle.load.specs.declared.reading.RecordAndSources.{RecordAndSources}
+use Rattle.load.specs.declared.reading.InterfaceRegisters.{InterfaceRegisters}
+use Rattle.load.specs.Reading.{own_owner, lawful_number, registers_from, record_and_sources}
 use Rattle.load.specs.Walking.{part_end}
 use Rattle.moving.specs.Reads.{Reads, LawfulPart, Spells, SamePart}
 use Rattle.moving.proofs.BytesNumbers.{Row, row_here}
 use Rattle.moving.proofs.BytesRegisters.{registers_read, registers_exact}
 use Rattle.moving.proofs.BytesService.{service_read, service_deep, service_lawful, service_row, service_end_lem, service_same}
 use Rattle.moving.proofs.BytesRecord.{rest_numbers, Fits, record_read, record_exact}
+use Rattle.interrupt.specs.declared.types.GicVcpuId.{GicVcpuId}
 
 -- the numbers of a record, by what follows flags and priority; only an SGI's sources count
 numbers_by_kind : (n : ℕ) (r : InterruptRecord) (x y : ℕ) → (n < 16 → x ≡ y) → interrupt_numbers n r x ≡ record_numbers r (rest_numbers n r.owner r.cpu_target_mask y)
@@ -47,9 +45,9 @@ numbers_by_kind n r x y same = go (ltb n 16) (ltb n 32) refl refl
     go false false p q = simp (p, q)
 
 -- a record in flight is charged to one of at most 8, any other to nobody
-few_owners : (shape : Shape) (o : Owner) → Charged shape o → shape.count ≤ 8 → owner_number o ≤ 8
-few_owners shape Nobody h few = absurd h
-few_owners shape (Vcpu u) h few = omega arith
+few_owners : (shape : Shape) (o : Option GicVcpuId) → Charged shape o → shape.count ≤ 8 → owner_number o ≤ 8
+few_owners shape None h few = absurd h
+few_owners shape (Some u) h few = omega arith
 
 module _ (shape : Shape) (v n : ℕ) (r : InterruptRecord) (few : shape.count ≤ 8) (range : InRange r) (h : Passed shape v n r) where
   passed_own : n < 32 → r.owner ≡ own_owner v r.inflight
@@ -122,16 +120,20 @@ module _ (shape : Shape) (s : List ℕ) where
   part_exact p image at next h = let row = reads_row p image at next h in (reads_lawful p image at next h, record { bytes = row.bytes; past = row.past })
 
   -- where it ends is read off the bytes
-  pub reads_end : (p : Part) (image : List ℕ) (at next : ℕ) → Reads shape image p at next s → part_end shape image p at ≡ At next
+  pub reads_end : (p : Part) (image : List ℕ) (at next : ℕ) → Reads shape image p at next s → part_end shape image p at ≡ Some next
   reads_end (Registers v) image at next h = rw h
   reads_end (Service v) image at next h = service_end_lem shape v.0 s image at next h
   reads_end (Interrupt v n) image at next h = rw h
 
-registers_parts : {a b c d a' b' c' d' : ℕ} → ◌≡◌ {A = FoundRegisters} (registers.Read a b c d) (registers.Read a' b' c' d') → (a ≡ a') × (b ≡ b') × (c ≡ c')
-registers_parts e = (cc, cc, cc)
+registers_parts : {a b c d a' b' c' d' : ℕ} → ◌≡◌ {A = Option (InterfaceRegisters × ℕ)} (Some (registers_from a b c, d)) (Some (registers_from a' b' c', d')) → (a ≡ a') × (b ≡ b') × (c ≡ c')
+registers_parts e =
+    let same = (some_pair_parts _ _ _ _ e).0 in
+    (ap (λ (r : InterfaceRegisters). r.control) same, ap (λ (r : InterfaceRegisters). r.mask) same, ap (λ (r : InterfaceRegisters). r.point) same)
 
-record_parts : {a a' : InterruptRecord} {x y d d' : ℕ} → ◌≡◌ {A = FoundRecord} (records.Read a x d) (records.Read a' y d') → (a ≡ a') × (x ≡ y)
-record_parts e = (cc, cc)
+record_parts : {a a' : InterruptRecord} {x y d d' : ℕ} → ◌≡◌ {A = Option (RecordAndSources × ℕ)} (Some (record_and_sources a x, d)) (Some (record_and_sources a' y, d')) → (a ≡ a') × (x ≡ y)
+record_parts e =
+    let same = (some_pair_parts _ _ _ _ e).0 in
+    (ap (λ (it : RecordAndSources). it.«record») same, ap (λ (it : RecordAndSources). it.sources) same)
 
 -- one place is read as one meaning
 pub reads_same : (shape : Shape) (s r : List ℕ) (p : Part) (image : List ℕ) (at next next' : ℕ) → Reads shape image p at next s → Reads shape image p at next' r → SamePart shape p s r

@@ -7,7 +7,8 @@ use native.Mathlib.Nat.{add-zero}
 use native.Mathlib.Omega.{arith}
 use lib.ListN.{length}
 use borrow.Author.Tests.{leb-true}
-use Rattle.groups.specs.declared.Found.TheVariants.{Number}
+use Rattle.std.proofs.lemmas.Option.{some_pair_parts}
+use Rattle.std.specs.Prelude.{Option, Some, None}
 use Rattle.groups.specs.Groups.{spelled}
 use Rattle.state.specs.declared.layout.Shape.{Shape}
 use Rattle.state.specs.declared.words.Entry.{Entry}
@@ -18,9 +19,6 @@ use Rattle.service.specs.Service.{depth_at, stack_to, running_of}
 use Rattle.lawful_test.specs.LawfulTest.{entry_lawful, entry_lawful_at, stack_lawful}
 use Rattle.image.specs.Image.{each, entry_numbers, service_numbers}
 use Rattle.image.specs.Parts.{Service}
-use Rattle.load.specs.declared.reading.FoundEntry.{FoundEntry}
-use Rattle.load.specs.declared.reading.FoundEntry.TheVariants.{Read, Refused}
-use Rattle.load.specs.declared.walking.Place.TheVariants.{At}
 use Rattle.load.specs.Reading.{entry_from, entry_found}
 use Rattle.load.specs.Walking.{spot, entry_spot, service_end}
 use Rattle.moving.specs.Reads.{ServiceReads, SamePart}
@@ -28,30 +26,30 @@ use Rattle.moving.proofs.BytesNumbers.{Row, row_none, row_end, row_append, row_e
 
 module _ (shape : Shape) (above : ℕ) (image : List ℕ) (at : ℕ) where
   entry_read : (e : Entry) (next : ℕ) → e.intid.0 < 16384 → e.priority.0 ≤ 255 → entry_lawful shape above e ≡ true → Row image at next (entry_numbers e)
-      → entry_found shape above image at ≡ Read e next
+      → entry_found shape above image at ≡ Some (e, next)
   unfolding entry_found
   entry_read e next small byte lawful row =
       let x = row_first small row in
       let y = row_bounded 255 byte (omega arith) x.rest in
-      simp (x.found, y.found, lawful) (ap (λ (i : ℕ). Read e i) (sym (row_end y.rest)))
+      simp (x.found, y.found, lawful) (ap (λ (i : ℕ). Some (e, i)) (sym (row_end y.rest)))
 
   -- what is read stands there and is lawful
-  abbrev Standing : FoundEntry → Type 0
-  Standing Refused = Unit {0}
-  Standing (Read e next) = (entry_lawful shape above e ≡ true) × Row image at next (entry_numbers e)
+  abbrev Standing : Option (Entry × ℕ) → Type 0
+  Standing None = Unit {0}
+  Standing (Some (e, next)) = (entry_lawful shape above e ≡ true) × Row image at next (entry_numbers e)
 
   entry_stands : Standing (entry_found shape above image at)
   unfolding entry_found
   entry_stands =
-      onward Standing Refused _ tt (found_shows image at) (λ n a x.
-      onward Standing Refused _ tt (bounded_shows 255 image a) (λ p next y.
+      onward Standing None _ tt (found_shows image at) (λ n a x.
+      onward Standing None _ tt (bounded_shows 255 image a) (λ p next y.
       go (entry_from n p) next (row_cons x (row_cons y.stands (row_none image next))) (entry_lawful shape above (entry_from n p)) refl))
     where
-      go : (e : Entry) (next : ℕ) → Row image at next (entry_numbers e) → (b : Bool) → entry_lawful shape above e ≡ b → Standing (cond b (Read e next) Refused)
+      go : (e : Entry) (next : ℕ) → Row image at next (entry_numbers e) → (b : Bool) → entry_lawful shape above e ≡ b → Standing (cond b (Some (e, next)) None)
       go e next row true p = (p, row)
       go e next row false p = tt
 
-  entry_exact : {e : Entry} {next : ℕ} → entry_found shape above image at ≡ Read e next → (entry_lawful shape above e ≡ true) × Row image at next (entry_numbers e)
+  entry_exact : {e : Entry} {next : ℕ} → entry_found shape above image at ≡ Some (e, next) → (entry_lawful shape above e ≡ true) × Row image at next (entry_numbers e)
   entry_exact e = subst Standing e entry_stands
 
 -- the numbers of entry i
@@ -66,7 +64,7 @@ module _ (shape : Shape) (v : ℕ) (s image : List ℕ) (at next : ℕ) where
       let f = entries_of shape v s in
       record {
         places = λ i. first.place + length (spelled (each f i));
-        depth = first.found ∙ ap (λ (i : ℕ). Number (depth_at shape v s) i) (sym (add-zero first.place));
+        depth = first.found ∙ ap (λ (i : ℕ). Some (depth_at shape v s, i)) (sym (add-zero first.place));
         entries = λ i h. entry_read shape (running_of (stack_to shape v s i)) image (first.place + length (spelled (each f i))) (entry_at shape v i s)
             (first.place + length (spelled (each f (suc i)))) (omega arith) (omega arith) (every_at (entry_lawful_at shape v s) (depth_at shape v s) i lawful h)
             (row_each f (depth_at shape v s) first.rest i h);
@@ -97,7 +95,7 @@ module _ (shape : Shape) (v : ℕ) (s image : List ℕ) (at next : ℕ) where
     service_spot zero b = refl
     service_spot (suc i) b = rw (service_spot i (omega arith)) (rw (h.entries i b))
 
-    pub service_end_lem : service_end shape image at ≡ At next
+    pub service_end_lem : service_end shape image at ≡ Some next
     unfolding service_end
     service_end_lem = simp (h.depth, service_spot (depth_at shape v s) (omega arith), h.ends)
 
@@ -105,11 +103,11 @@ module _ (shape : Shape) (v : ℕ) (s image : List ℕ) (at next : ℕ) where
 pub service_same : {shape : Shape} {v : ℕ} {s r image : List ℕ} {at next next' : ℕ} → ServiceReads shape image v at next s → ServiceReads shape image v at next' r → SamePart shape (Service (record { 0 = v })) s r
 service_same {shape} {v} {s} {r} {image} {at} {next} {next'} p q = (deep, same)
   where
-    deep : depth_at shape v s ≡ depth_at shape v r
-    deep = let a = p.depth in let b = q.depth in cc
+    first : (depth_at shape v s ≡ depth_at shape v r) × (p.places 0 ≡ q.places 0)
+    first = some_pair_parts _ _ _ _ (sym p.depth ∙ q.depth)
 
-    start : p.places 0 ≡ q.places 0
-    start = let a = p.depth in let b = q.depth in cc
+    deep : depth_at shape v s ≡ depth_at shape v r
+    deep = first.0
 
     same : (i : ℕ) → i < depth_at shape v s → entry_at shape v i s ≡ entry_at shape v i r
     same i h =
@@ -118,5 +116,6 @@ service_same {shape} {v} {s} {r} {image} {at} {next} {next'} p q = (deep, same)
         let b = service_spot shape v r image at next' q i (omega arith) in
         let x = p.entries i h in
         let y = q.entries i below in
-        let z = start in
-        cc
+        let z = first.1 in
+        let e : ◌≡◌ {A = Option (Entry × ℕ)} (Some (entry_at shape v i s, p.places (suc i))) (Some (entry_at shape v i r, q.places (suc i))) = cc in
+        (some_pair_parts _ _ _ _ e).0

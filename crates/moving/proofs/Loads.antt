@@ -16,10 +16,7 @@ use Rattle.answer.specs.Answer.{Outcome, refused, gave}
 use Rattle.lawful.specs.Lawful.{Lawful, Controls}
 use Rattle.image.specs.Image.{body_numbers, numbers, image}
 use Rattle.image.specs.Parts.{part_count}
-use Rattle.load.specs.declared.opening.Opened.{Opened}
-use Rattle.load.specs.declared.opening.Opened.TheVariants as opened
-use Rattle.load.specs.declared.walking.Place.{Place}
-use Rattle.load.specs.declared.walking.Place.TheVariants.{At, Refused}
+use Rattle.std.specs.Prelude.{Option, Some, None}
 use Rattle.load.specs.Walking.{walked}
 use Rattle.load.specs.Load.{opened_as, image_shape, stored, loaded_to, loaded_as, load}
 use Rattle.moving.proofs.BytesNumbers.{Row}
@@ -30,8 +27,8 @@ use Rattle.moving.proofs.Walks.{walked_through, walked_reads, walked_bytes, walk
 
 -- the bytes were walked through to their end
 pub record Accepts (bytes : List ℕ) (shape : Shape) (control start end : ℕ) : Type 0 where
-  pub opening : opened_as bytes ≡ opened.Read shape control start
-  pub whole : walked shape bytes start (part_count shape) ≡ At end
+  pub opening : opened_as bytes ≡ Some (shape, control, start)
+  pub whole : walked shape bytes start (part_count shape) ≡ Some end
   pub over : length bytes ≤ end
 
 -- a load by its cases
@@ -47,18 +44,18 @@ load_split bytes w P unlawful short loads = go (opened_as bytes) refl
     room shape control start end it true e = loads shape control start end it (leb-true (size shape) (length w) e)
     room shape control start end it false e = short shape control start end it (leb-false (size shape) (length w) e)
 
-    walk : (shape : Shape) (control start : ℕ) → opened_as bytes ≡ opened.Read shape control start → (p : Place) → walked shape bytes start (part_count shape) ≡ p
+    walk : (shape : Shape) (control start : ℕ) → opened_as bytes ≡ Some (shape, control, start) → (p : Option ℕ) → walked shape bytes start (part_count shape) ≡ p
         → P (loaded_to p shape bytes w (stored shape control bytes start w))
-    walk shape control start o Refused p = unlawful
-    walk shape control start o (At end) p = over (ltb end (length bytes)) refl
+    walk shape control start o None p = unlawful
+    walk shape control start o (Some end) p = over (ltb end (length bytes)) refl
       where
         over : (b : Bool) → ltb end (length bytes) ≡ b → P (cond b (refused Unlawful w) (cond (leb (size shape) (length w)) (gave 0 (stored shape control bytes start w)) (refused ShortState w)))
         over true e = unlawful
         over false e = room shape control start end (record { opening = o; whole = p; over = ltb-false end (length bytes) e }) (leb (size shape) (length w)) refl
 
-    go : (o : Opened) → opened_as bytes ≡ o → P (loaded_as o bytes w)
-    go opened.Refused p = unlawful
-    go (opened.Read shape control start) p = walk shape control start p (walked shape bytes start (part_count shape)) refl
+    go : (o : Option (Shape × ℕ × ℕ)) → opened_as bytes ≡ o → P (loaded_as o bytes w)
+    go None p = unlawful
+    go (Some (shape, control, start)) p = walk shape control start p (walked shape bytes start (part_count shape)) refl
 
 -- bytes that were accepted load where there is room for their state, and there alone
 module _ (bytes w : List ℕ) (shape : Shape) (control start end : ℕ) (it : Accepts bytes shape control start end) where

@@ -12,10 +12,6 @@ use lib.Seq.{take-append_seam, drop-append_seam, drop-append-le}
 use borrow.Author.Tests.{le-leb, lt-leb, leb-true, leb-false}
 use Rattle.register.specs.declared.frame.Refusal.TheVariants.{ShortState, Unlawful, BrokenState, NoRoom}
 use Rattle.state.specs.declared.layout.Shape.{Shape}
-use Rattle.state.specs.declared.lent.Lent.{Lent}
-use Rattle.state.specs.declared.lent.Lent.TheVariants.{Sound, Broken}
-use Rattle.state.specs.declared.lent.Limited.{Limited}
-use Rattle.state.specs.declared.lent.Limited.TheVariants.{Within, Outside}
 use Rattle.state.specs.Layout.{size}
 use Rattle.state.specs.Lent.{limited, validated}
 use Rattle.state.specs.Words.{distributor_control_at, Canonical}
@@ -26,7 +22,7 @@ use Rattle.lawful_test.specs.LawfulTest.{is_lawful}
 use Rattle.lawful_test.proofs.Passing.{lawful_passes, passes_lawful}
 use Rattle.image.specs.Image.{image, IsImage}
 use Rattle.image.specs.Parts.{part_count, part_at}
-use Rattle.load.specs.declared.walking.Place.TheVariants.{At}
+use Rattle.std.specs.Prelude.{Some, Option, None}
 use Rattle.load.specs.Load.{image_shape, stored, load}
 use Rattle.save.specs.Save.{Saved, save}
 use Rattle.moving.specs.Means.{MeansSame}
@@ -87,7 +83,7 @@ module _ (shape : Shape) (s : List ℕ) (law : Lawful shape s) (w : List ℕ) wh
     same_parts k b =
         let own = imaged.reads k b in
         let its = held_reads (image shape s) w shape (distributor_control_at shape s) imaged.start (length (image shape s)) imaged.accepts h k b in
-        let same : At own.at ≡ At its.at = sym own.before ∙ its.before in
+        let same : Some own.at ≡ Some its.at = sym own.before ∙ its.before in
         let place : own.at ≡ its.at = cc in
         reads_same shape s restored (part_at shape k) (image shape s) own.at own.next its.next own.reads (rw place its.reads)
 
@@ -153,9 +149,9 @@ load_forgets_the_old_words bytes w x e f =
 abbrev pub beside : List ℕ → Outcome → Outcome
 beside x o = record { refusal = o.refusal; value = o.value; wake = o.wake; retired = o.retired; state = o.state ++ x }
 
-abbrev pub size_in : Limited → ℕ
-size_in Outside = 0
-size_in (Within shape) = size shape
+abbrev pub size_in : Option Shape → ℕ
+size_in None = 0
+size_in (Some shape) = size shape
 
 module _ (bytes a x : List ℕ) (fits : size_in (limited (image_shape bytes).count (image_shape bytes).limit) ≤ length a) where
   longer : length a ≤ length (a ++ x)
@@ -165,7 +161,7 @@ module _ (bytes a x : List ℕ) (fits : size_in (limited (image_shape bytes).cou
     room : size shape ≤ length a
     room =
         let limits = accepted_limits bytes a shape control start end it in
-        let same : limited (image_shape bytes).count (image_shape bytes).limit ≡ Within shape = rw (accepted_shape bytes a shape control start end it) (limits_limited shape limits) in
+        let same : limited (image_shape bytes).count (image_shape bytes).limit ≡ Some shape = rw (accepted_shape bytes a shape control start end it) (limits_limited shape limits) in
         rw same at fits
 
     with_them : stored shape control bytes start (a ++ x) ≡ stored shape control bytes start a ++ x
@@ -223,11 +219,11 @@ module _ (shape : Shape) (s : List ℕ) (law : Lawful shape s) (buffer : List �
   unfolding save
   too_short h = simp (held_validated s shape law.in_range, lawful_passes shape s law, lt-leb (length (image shape s)) (length buffer) h)
 
-as_broken : (s buffer : List ℕ) → validated s ≡ Broken → save s buffer ≡ record { outcome = refused BrokenState s; buffer = buffer }
+as_broken : (s buffer : List ℕ) → validated s ≡ None → save s buffer ≡ record { outcome = refused BrokenState s; buffer = buffer }
 unfolding save
 as_broken s buffer p = simp p
 
-as_unlawful : (s buffer : List ℕ) (shape : Shape) → validated s ≡ Sound shape → is_lawful shape s ≡ false → save s buffer ≡ record { outcome = refused Unlawful s; buffer = buffer }
+as_unlawful : (s buffer : List ℕ) (shape : Shape) → validated s ≡ Some shape → is_lawful shape s ≡ false → save s buffer ≡ record { outcome = refused Unlawful s; buffer = buffer }
 unfolding save
 as_unlawful s buffer shape p q = simp (p, q)
 
@@ -236,9 +232,9 @@ pub save_cases : (s buffer : List ℕ) (P : Saved → Type 0) → P (record { ou
     → P (record { outcome = refused NoRoom s; buffer = buffer }) → (SavedAs s buffer → P (save s buffer)) → P (save s buffer)
 save_cases s buffer P broken unlawful short saves = go (validated s) refl
   where
-    go : (l : Lent) → validated s ≡ l → P (save s buffer)
-    go Broken p = subst P (sym (as_broken s buffer p)) broken
-    go (Sound shape) p = lawful (is_lawful shape s) refl
+    go : (l : Option Shape) → validated s ≡ l → P (save s buffer)
+    go None p = subst P (sym (as_broken s buffer p)) broken
+    go (Some shape) p = lawful (is_lawful shape s) refl
       where
         lawful : (b : Bool) → is_lawful shape s ≡ b → P (save s buffer)
         lawful false q = subst P (sym (as_unlawful s buffer shape p q)) unlawful

@@ -6,7 +6,8 @@ use Prim.Native.Nat.{ℕ, zero, suc, ◌+◌, ◌-◌, ◌%◌, ◌≤◌, ◌<�
 use native.Mathlib.Nat.{zero-add, le_refl}
 use native.Mathlib.Omega.{arith}
 use lib.ListN.{length, drop_of_length-le}
-use Rattle.groups.specs.declared.Found.TheVariants.{Number}
+use Rattle.std.proofs.lemmas.Option.{some_pair_parts, same_Some}
+use Rattle.std.specs.Prelude.{Some, Option}
 use Rattle.groups.specs.Groups.{spelled, found_at}
 use Rattle.groups.proofs.Numbers.{AllSmall}
 use Rattle.register.specs.declared.frame.Refusal.TheVariants.{Unlawful}
@@ -32,9 +33,10 @@ row_same (x ∷ xs) [] l a b p q = absurd (omega (arith, l))
 row_same {image} {at} {next} {next'} (x ∷ xs) (y ∷ ys) l a b p q =
     let f = row_first a.0 p in
     let g = row_first b.0 q in
-    let found : Number x f.place ≡ Number y g.place = sym f.found ∙ g.found in
-    let place : f.place ≡ g.place = cc in
-    let number : x ≡ y = cc in
+    let found : ◌≡◌ {A = Option (ℕ × ℕ)} (Some (x, f.place)) (Some (y, g.place)) = sym f.found ∙ g.found in
+    let same = some_pair_parts _ _ _ _ found in
+    let place = same.1 in
+    let number = same.0 in
     λ i. number i ∷ row_same {at = f.place} {next = next} {next' = next'} xs ys (omega (arith, l)) a.1 b.1 f.rest (subst (λ (k : ℕ). Row image k next' ys) (sym place) g.rest) i
 
 -- so are lists one after another, if each of them is
@@ -91,7 +93,7 @@ module _ (shape : Shape) (s r : List ℕ) (h : HoldsState shape s) (k : HoldsSta
       record { mid = _; interfaces = two.first; end = _; services = two.rest }
 
   start_same : opens_s.start ≡ opens_r.start
-  start_same = let a = opens_s.opened in let b = opens_r.opened in cc
+  start_same = ap (λ (it : Shape × ℕ × ℕ). it.2) (same_Some _ _ (sym opens_s.opened ∙ opens_r.opened))
 
   of_s : Body s opens_s.start
   of_s = body s opens_s.start opens_s.body
@@ -116,14 +118,14 @@ module _ (shape : Shape) (s r : List ℕ) (h : HoldsState shape s) (k : HoldsSta
     first_r : First bytes (found_at 2 bytes at) m' (depth_at shape v r) (each (entries_of shape v r) (depth_at shape v r))
     first_r = row_first (omega (arith, k.depths v b)) q
 
-    found : Number (depth_at shape v s) first_s.place ≡ Number (depth_at shape v r) first_r.place
+    found : ◌≡◌ {A = Option (ℕ × ℕ)} (Some (depth_at shape v s, first_s.place)) (Some (depth_at shape v r, first_r.place))
     found = sym first_s.found ∙ first_r.found
 
     depths : depth_at shape v s ≡ depth_at shape v r
-    depths = let e = found in cc
+    depths = (some_pair_parts _ _ _ _ found).0
 
     place : first_s.place ≡ first_r.place
-    place = let e = found in cc
+    place = (some_pair_parts _ _ _ _ found).1
 
     rest_r : Row bytes first_s.place m' (each (entries_of shape v r) (depth_at shape v s))
     rest_r = rw (place, depths) first_r.rest

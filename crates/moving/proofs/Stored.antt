@@ -25,11 +25,10 @@ use Rattle.state.proofs.SlotKinds.{kinds_apart}
 use Rattle.state.proofs.Steps.{slots, Agree, steps_own, steps_others}
 use Rattle.image.specs.Parts.{Part, Registers, Service, Interrupt, part_at, part_count}
 use Rattle.image.proofs.Cases.{part_registers, service_part, private_part}
-use Rattle.load.specs.declared.walking.Place.{Place}
-use Rattle.load.specs.declared.walking.Place.TheVariants.{At, Refused}
+use Rattle.std.proofs.lemmas.Option.{none-some}
+use Rattle.std.specs.Prelude.{Option, Some, None}
+use Rattle.load.specs.declared.reading.RecordAndSources.{RecordAndSources}
 use Rattle.load.specs.Load.{stored}
-use Rattle.load.specs.declared.reading.FoundRecord.{FoundRecord}
-use Rattle.load.specs.declared.reading.FoundRecord.TheVariants as found
 use Rattle.load.specs.Reading.{record_found}
 use Rattle.load.specs.Walking.{then_place, part_end, part_stored, record_end, record_stored, walked, step_stored, parts_stored}
 use Rattle.moving.specs.Reads.{Reads}
@@ -42,19 +41,19 @@ module _ (shape : Shape) (image : List ℕ) (start : ℕ) where
   record Passed (k : ℕ) : Type 0 where
     pub at : ℕ
     pub next : ℕ
-    pub before : walked shape image start k ≡ At at
-    pub after : walked shape image start (suc k) ≡ At next
-    pub ends : part_end shape image (part_at shape k) at ≡ At next
+    pub before : walked shape image start k ≡ Some at
+    pub after : walked shape image start (suc k) ≡ Some next
+    pub ends : part_end shape image (part_at shape k) at ≡ Some next
 
-  passed_last : (k next : ℕ) → walked shape image start (suc k) ≡ At next → Passed k
+  passed_last : (k next : ℕ) → walked shape image start (suc k) ≡ Some next → Passed k
   unfolding walked
   passed_last k next after = go (walked shape image start k) refl after
     where
-      go : (x : Place) → walked shape image start k ≡ x → then_place Refused x (part_end shape image (part_at shape k)) ≡ At next → Passed k
-      go Refused p e = let z : ◌≡◌ {A = ℕ} 0 1 = cc in absurd (omega arith)
-      go (At at) p e = record { at = at; next = next; before = p; after = after; ends = e }
+      go : (x : Option ℕ) → walked shape image start k ≡ x → then_place None x (part_end shape image (part_at shape k)) ≡ Some next → Passed k
+      go None p e = absurd (none-some _ e)
+      go (Some at) p e = record { at = at; next = next; before = p; after = after; ends = e }
 
-  passed : (n end : ℕ) → walked shape image start n ≡ At end → (k : ℕ) → k < n → Passed k
+  passed : (n end : ℕ) → walked shape image start n ≡ Some end → (k : ℕ) → k < n → Passed k
   passed zero end e k b = absurd (not-suc-le-zero b)
   passed (suc n) end e k b =
       let last = passed_last n end e in
@@ -64,9 +63,9 @@ module _ (shape : Shape) (image : List ℕ) (start : ℕ) where
   step_keeps : (k : ℕ) → Stands shape k (part_at shape k) → Keeps shape (λ t. part_index shape t ≡ k) (step_stored shape image start k)
   step_keeps k h = go (walked shape image start k)
     where
-      go : (x : Place) → Keeps shape (λ t. part_index shape t ≡ k) (λ s. then_place s x (λ at. part_stored shape image (part_at shape k) at s))
-      go Refused = idle_keeps
-      go (At at) =
+      go : (x : Option ℕ) → Keeps shape (λ t. part_index shape t ≡ k) (λ s. then_place s x (λ at. part_stored shape image (part_at shape k) at s))
+      go None = idle_keeps
+      go (Some at) =
           subst (λ (j : ℕ). Keeps shape (λ t. part_index shape t ≡ j) (part_stored shape image (part_at shape k) at)) h.stands
           (part_keeps shape image (part_at shape k) at h.there)
 
@@ -88,8 +87,8 @@ up_made P Good f (suc n) k s g b good made keeps =
 pub record PartHeld (shape : Shape) (image : List ℕ) (start k : ℕ) (s : List ℕ) : Type 0 where
   pub at : ℕ
   pub next : ℕ
-  pub before : walked shape image start k ≡ At at
-  pub after : walked shape image start (suc k) ≡ At next
+  pub before : walked shape image start k ≡ Some at
+  pub after : walked shape image start (suc k) ≡ Some next
   pub reads : Reads shape image (part_at shape k) at next s
 
 module _ (shape : Shape) (control : ℕ) (image : List ℕ) (start : ℕ) (w : List ℕ) (h : Room shape w) where
@@ -166,7 +165,7 @@ module _ (shape : Shape) (control : ℕ) (image : List ℕ) (start : ℕ) (w : L
   stored_control most = rw control_word (omega arith)
 
   -- the words of part k
-  stored_agree : (k at : ℕ) → k < part_count shape → walked shape image start k ≡ At at
+  stored_agree : (k at : ℕ) → k < part_count shape → walked shape image start k ≡ Some at
       → Agree shape (OfPart shape (part_at shape k)) held (part_stored shape image (part_at shape k) at base)
   unfolding parts_stored
   stored_agree k at b here =
@@ -174,7 +173,7 @@ module _ (shape : Shape) (control : ℕ) (image : List ℕ) (start : ℕ) (w : L
       record { agree = λ t e m. own.agree t e (m ∙ (part_stands shape k h.limits b).stands) ∙ rw here }
 
   -- .. where the walk came to its end
-  module _ (end : ℕ) (whole : walked shape image start (part_count shape) ≡ At end) where
+  module _ (end : ℕ) (whole : walked shape image start (part_count shape) ≡ Some end) where
     stored_left : (k : ℕ) (b : k < part_count shape) → PartLeft shape image (part_at shape k) (passed shape image start (part_count shape) end whole k b).at (passed shape image start (part_count shape) end whole k b).next held
     stored_left k b =
         let p = passed shape image start (part_count shape) end whole k b in
@@ -246,14 +245,14 @@ module _ (shape : Shape) (control : ℕ) (image : List ℕ) (start : ℕ) (w : L
             (kept k on DistributorControl (kept_distributor_control control) cleared tt tt (emptied_room, rw (cleared_summary shape (with_shape shape w) shaped_room k on) (pow_pos (spis_in shape k))))).1
 
     -- .. and exact: each SPI's bit was made with its record, and stays
-    spi_stored : (n at next : ℕ) (s : List ℕ) → Exists shape (Spi n) → Room shape s → part_end shape image (Interrupt (record { 0 = 0 }) (record { 0 = n })) at ≡ At next
+    spi_stored : (n at next : ℕ) (s : List ℕ) → Exists shape (Spi n) → Room shape s → part_end shape image (Interrupt (record { 0 = 0 }) (record { 0 = n })) at ≡ Some next
         → ExactAt shape n (part_stored shape image (Interrupt (record { 0 = 0 }) (record { 0 = n })) at s)
     spi_stored n at next s e room ends = go (record_found shape 0 n image at) ends
       where
-        go : (f : FoundRecord) → record_end f ≡ At next → ExactAt shape n (record_stored shape 0 n f s)
-        go found.Refused p = let z : ◌≡◌ {A = ℕ} 0 1 = cc in absurd (omega arith)
-        go (found.Read r x end) p =
-            rw (le-ltb n 16 (omega arith), record_spi 0 n (le-ltb n 32 e.0)) (put_makes_exact shape s room n (word_of r) e)
+        go : (f : Option (RecordAndSources × ℕ)) → record_end f ≡ Some next → ExactAt shape n (record_stored shape 0 n f s)
+        go None p = absurd (none-some _ p)
+        go (Some (it, end)) p =
+            rw (le-ltb n 16 (omega arith), record_spi 0 n (le-ltb n 32 e.0)) (put_makes_exact shape s room n (word_of it.«record») e)
 
     pub stored_exact : Exact shape held
     unfolding parts_stored

@@ -8,8 +8,8 @@ use native.Mathlib.Nat.{mod-eq_of_lt}
 use native.Mathlib.Omega.{arith}
 use lib.Dec.{eqb, ltb}
 use borrow.Author.Tests.{ltb-true, ltb-false, eqb-false}
-use Rattle.groups.specs.declared.Found.{Found}
-use Rattle.groups.specs.declared.Found.TheVariants as found
+use Rattle.std.proofs.lemmas.Option.{none-some}
+use Rattle.std.specs.Prelude.{Option, Some, None}
 use Rattle.word.specs.Word.{record_of, word_of}
 use Rattle.word.proofs.Cases.{last_or}
 use Rattle.word.proofs.RecordWord.{decode_encode}
@@ -24,13 +24,8 @@ use Rattle.state.proofs.SlotKinds.{kinds_apart}
 use Rattle.state.proofs.Steps.{slots, Agree, Local, steps_room, steps_own, steps_others}
 use Rattle.service.specs.Service.{depth_at, stack_to, running_of}
 use Rattle.image.specs.Parts.{Part, Registers, Service, Interrupt, PartThere}
-use Rattle.load.specs.declared.reading.FoundRegisters.{FoundRegisters}
-use Rattle.load.specs.declared.reading.FoundRegisters.TheVariants as registers
-use Rattle.load.specs.declared.reading.FoundEntry.{FoundEntry}
-use Rattle.load.specs.declared.reading.FoundEntry.TheVariants as entry
-use Rattle.load.specs.declared.reading.FoundRecord.{FoundRecord}
-use Rattle.load.specs.declared.reading.FoundRecord.TheVariants as records
-use Rattle.load.specs.declared.walking.Place.TheVariants.{At, Refused}
+use Rattle.load.specs.declared.reading.RecordAndSources.{RecordAndSources}
+use Rattle.load.specs.declared.reading.InterfaceRegisters.{InterfaceRegisters}
 use Rattle.load.specs.Reading.{then_number, number_up_to, registers_at, entry_found, record_found}
 use Rattle.load.specs.Walking.{registers_end, registers_stored, Spot, spot, lost, after_entry, entry_in, entry_spot, spot_end, entry_stored, entries_stored, cleared_from, with_depth, service_end, service_stored, record_end, record_stored, part_end, part_stored}
 use Rattle.moving.specs.Reads.{ServiceReads, Reads}
@@ -68,10 +63,13 @@ values_apart v k j apart p = eqb-false (interface_number k) (interface_number j)
 
 module _ (shape : Shape) (image : List ℕ) (at next : ℕ) (s r : List ℕ) (h : Room shape s) where
   -- a vCPU's registers
-  registers_left : (v : ℕ) (f : FoundRegisters) → v < shape.count → registers_at image at ≡ f → registers_end f ≡ At next
+  registers_left : (v : ℕ) (f : Option (InterfaceRegisters × ℕ)) → v < shape.count → registers_at image at ≡ f → registers_end f ≡ Some next
       → Agree shape (OfPart shape (Registers (record { 0 = v }))) r (registers_stored shape v f s) → PartLeft shape image (Registers (record { 0 = v })) at next r
-  registers_left v registers.Refused b e ends a = let z : ◌≡◌ {A = ℕ} 0 1 = cc in absurd (omega arith)
-  registers_left v (registers.Read c m p k) b e ends a =
+  registers_left v None b e ends a = absurd (none-some _ ends)
+  registers_left v (Some (f, k)) b e ends a =
+      let c = f.control in
+      let m = f.mask in
+      let p = f.point in
       let ranged = registers_ranged image at c m p k e in
       let same : k ≡ next = cc in
       let one = with_interface shape v Control c s in
@@ -95,42 +93,42 @@ module _ (shape : Shape) (image : List ℕ) (at next : ℕ) (s r : List ℕ) (h 
       }
 
   -- a record, and the source set of an SGI
-  record_left : (v n : ℕ) (f : FoundRecord) → RecordThere shape v n → record_found shape v n image at ≡ f → record_end f ≡ At next
+  record_left : (v n : ℕ) (f : Option (RecordAndSources × ℕ)) → RecordThere shape v n → record_found shape v n image at ≡ f → record_end f ≡ Some next
       → Agree shape (OfPart shape (Interrupt (record { 0 = v }) (record { 0 = n }))) r (record_stored shape v n f s)
       → PartLeft shape image (Interrupt (record { 0 = v }) (record { 0 = n })) at next r
-  record_left v n records.Refused there e ends = λ a. let z : ◌≡◌ {A = ℕ} 0 1 = cc in absurd (omega arith)
-  record_left v n (records.Read x sources k) there e ends = go (ltb n 16) refl
+  record_left v n None there e ends = λ a. absurd (none-some _ ends)
+  record_left v n (Some (it, k)) there e ends = go (ltb n 16) refl
     where
       here : Exists shape (record_slot v n)
       here = record_exists shape v n there
 
-      ranged : RecordRanged n x sources
-      ranged = record_ranged shape v n image at x sources k h.limits there e
+      ranged : RecordRanged n it.«record» it.sources
+      ranged = record_ranged shape v n image at it.«record» it.sources k h.limits there e
 
       stored : List ℕ
-      stored = with_record shape v n x s
+      stored = with_record shape v n it.«record» s
 
-      with_record_lem : word_at shape (record_slot v n) r ≡ word_of x → cond (ltb n 16) (sources_at shape v n r) 0 ≡ sources
+      with_record_lem : word_at shape (record_slot v n) r ≡ word_of it.«record» → cond (ltb n 16) (sources_at shape v n r) 0 ≡ it.sources
           → (n < 16 → CanonicalWord (Sources v n) (word_at shape (Sources v n) r)) → PartLeft shape image (Interrupt (record { 0 = v }) (record { 0 = n })) at next r
       with_record_lem word set canonical =
           let same : k ≡ next = cc in
-          let back : record_at shape v n r ≡ x = ap record_of word ∙ decode_encode x ranged.in_range in
+          let back : record_at shape v n r ≡ it.«record» = ap record_of word ∙ decode_encode it.«record» ranged.in_range in
           record { reads = rw (back, set) (rw same at e); written = record { word = ap word_of back ∙ sym word; sources = canonical } }
 
-      go : (b : Bool) → ltb n 16 ≡ b → Agree shape (OfPart shape (Interrupt (record { 0 = v }) (record { 0 = n }))) r (cond b (with_sources shape v n sources stored) stored)
+      go : (b : Bool) → ltb n 16 ≡ b → Agree shape (OfPart shape (Interrupt (record { 0 = v }) (record { 0 = n }))) r (cond b (with_sources shape v n it.sources stored) stored)
           → PartLeft shape image (Interrupt (record { 0 = v }) (record { 0 = n })) at next r
       go true p a =
           let sgi : n < 16 = ltb-true n 16 p in
           let there' : Exists shape (Sources v n) = (there.banked (omega arith), sgi) in
-          let set : word_at shape (Sources v n) r ≡ sources =
-          a.agree (Sources v n) there' (sources_index shape v n sgi) ∙ put_same shape stored (Sources v n) sources (put_room shape s (record_slot v n) (word_of x) h) there' in
-          let small : sources % 256 ≡ sources = mod-eq_of_lt ranged.small in
+          let set : word_at shape (Sources v n) r ≡ it.sources =
+          a.agree (Sources v n) there' (sources_index shape v n sgi) ∙ put_same shape stored (Sources v n) it.sources (put_room shape s (record_slot v n) (word_of it.«record») h) there' in
+          let small : it.sources % 256 ≡ it.sources = mod-eq_of_lt ranged.small in
           with_record_lem
           (a.agree (record_slot v n) here refl
-          ∙ put_other shape stored (record_slot v n) (Sources v n) sources here there' (record_no_sources v n v n) ∙ put_same shape s (record_slot v n) (word_of x) h here)
+          ∙ put_other shape stored (record_slot v n) (Sources v n) it.sources here there' (record_no_sources v n v n) ∙ put_same shape s (record_slot v n) (word_of it.«record») h here)
           (rw (p, set) small) (λ _. rw set small)
       go false p a =
-          with_record_lem (a.agree (record_slot v n) here refl ∙ put_same shape s (record_slot v n) (word_of x) h here)
+          with_record_lem (a.agree (record_slot v n) here refl ∙ put_same shape s (record_slot v n) (word_of it.«record») h here)
           (rw p (sym (ranged.none (ltb-false n 16 p)))) (λ sgi. absurd (let high : 16 ≤ n = ltb-false n 16 p in omega arith))
 
 -- a stack: the entries, one after another
@@ -150,17 +148,17 @@ module _ (shape : Shape) (image : List ℕ) where
   -- the entry between two spots
   record EntryRead (x y : Spot) : Type 0 where
     pub this : Entry
-    pub found : entry_found shape (above_of x) image (place_of x) ≡ entry.Read this (place_of y)
-    pub taken : entry_in shape image x ≡ entry.Read this (place_of y)
+    pub found : entry_found shape (above_of x) image (place_of x) ≡ Some (this, place_of y)
+    pub taken : entry_in shape image x ≡ Some (this, place_of y)
     pub above : above_of y ≡ this.priority.0
 
   entry_read : (x : Spot) → Kept (after_entry (entry_in shape image x)) → EntryRead x (after_entry (entry_in shape image x))
   entry_read lost k = absurd k
   entry_read (spot at above) k = go (entry_found shape above image at) refl k
     where
-      go : (f : FoundEntry) → entry_found shape above image at ≡ f → Kept (after_entry f) → EntryRead (spot at above) (after_entry f)
-      go entry.Refused e kept = absurd kept
-      go (entry.Read x next) e kept = record { this = x; found = e; taken = e; above = refl }
+      go : (f : Option (Entry × ℕ)) → entry_found shape above image at ≡ f → Kept (after_entry f) → EntryRead (spot at above) (after_entry f)
+      go None e kept = absurd kept
+      go (Some (x, next)) e kept = record { this = x; found = e; taken = e; above = refl }
 
   spot_before : (x : Spot) → Kept (after_entry (entry_in shape image x)) → Kept x
   spot_before lost k = k
@@ -228,24 +226,24 @@ module _ (shape : Shape) (image : List ℕ) (v d first : ℕ) (s : List ℕ) (h 
       steps_others (slots shape) (λ j t. t ≡ Stack v j) stores d emptied stores_local emptied_room (Stack v i) (b, c) (λ j k p. let x : i ≡ j = cc in omega arith)
       ∙ emptied_entry i deep c
 
-  filled_entry : (i : ℕ) (e : Entry) (next : ℕ) → i < d → entry_in shape image (entry_spot shape image first i) ≡ entry.Read e next
+  filled_entry : (i : ℕ) (e : Entry) (next : ℕ) → i < d → entry_in shape image (entry_spot shape image first i) ≡ Some (e, next)
       → word_at shape (Stack v i) filled ≡ entry_word e
   unfolding entries_stored
   filled_entry i e next c found =
       (steps_own (slots shape) (λ j t. t ≡ Stack v j) stores (λ j k t p q. cc) d emptied stores_local emptied_room i c).agree (Stack v i) (b, omega arith) refl
-      ∙ ap (λ (f : FoundEntry). word_at shape (Stack v i) (entry_stored shape v i f emptied)) found
+      ∙ ap (λ (f : Option (Entry × ℕ)). word_at shape (Stack v i) (entry_stored shape v i f emptied)) found
       ∙ put_same shape emptied (Stack v i) (entry_word e) emptied_room (b, omega arith)
 
-spot_kept : (x : Spot) (next : ℕ) → spot_end x ≡ At next → Kept x
-spot_kept lost next e = let z : ◌≡◌ {A = ℕ} 0 1 = cc in absurd (omega arith)
+spot_kept : (x : Spot) (next : ℕ) → spot_end x ≡ Some next → Kept x
+spot_kept lost next e = absurd (none-some _ e)
 spot_kept (spot at above) next e = tt
 
-spot_place : (x : Spot) (next : ℕ) → spot_end x ≡ At next → place_of x ≡ next
-spot_place lost next e = let z : ◌≡◌ {A = ℕ} 0 1 = cc in absurd (omega arith)
+spot_place : (x : Spot) (next : ℕ) → spot_end x ≡ Some next → place_of x ≡ next
+spot_place lost next e = absurd (none-some _ e)
 spot_place (spot at above) next e = cc
 
 module _ (shape : Shape) (image : List ℕ) (v at next d first : ℕ) (s r : List ℕ) (h : Room shape s) (b : v < shape.count)
-    (found : number_up_to stack_capacity image at ≡ found.Number d first) (ends : spot_end (entry_spot shape image first d) ≡ At next)
+    (found : number_up_to stack_capacity image at ≡ Some (d, first)) (ends : spot_end (entry_spot shape image first d) ≡ Some next)
     (a : Agree shape (OfPart shape (Service (record { 0 = v }))) r (entries_stored shape image v first d (with_depth shape v d s))) where
   most : d ≤ stack_capacity
   most = number_most stack_capacity image at d first found
@@ -292,17 +290,17 @@ module _ (shape : Shape) (image : List ℕ) (v at next d first : ℕ) (s r : Lis
   }
 
 module _ (shape : Shape) (image : List ℕ) (at next : ℕ) (s r : List ℕ) (h : Room shape s) where
-  service_left : (v : ℕ) (f : Found) → v < shape.count → number_up_to stack_capacity image at ≡ f
-      → then_number Refused f (λ d first. spot_end (entry_spot shape image first d)) ≡ At next
+  service_left : (v : ℕ) (f : Option (ℕ × ℕ)) → v < shape.count → number_up_to stack_capacity image at ≡ f
+      → then_number None f (λ d first. spot_end (entry_spot shape image first d)) ≡ Some next
       → Agree shape (OfPart shape (Service (record { 0 = v }))) r (then_number s f (λ d first. entries_stored shape image v first d (with_depth shape v d s)))
       → PartLeft shape image (Service (record { 0 = v })) at next r
-  service_left v found.Refused b e ends a = let z : ◌≡◌ {A = ℕ} 0 1 = cc in absurd (omega arith)
-  service_left v (found.Number d first) b e ends a = record {
+  service_left v None b e ends a = absurd (none-some _ ends)
+  service_left v (Some (d, first)) b e ends a = record {
     reads = service_reads shape image v at next d first s r h b e ends a;
     written = service_written shape image v at next d first s r h b e ends a;
   }
 
-  pub part_left : (p : Part) → PartThere shape p → part_end shape image p at ≡ At next → Agree shape (OfPart shape p) r (part_stored shape image p at s)
+  pub part_left : (p : Part) → PartThere shape p → part_end shape image p at ≡ Some next → Agree shape (OfPart shape p) r (part_stored shape image p at s)
       → PartLeft shape image p at next r
   unfolding service_end service_stored
   part_left (Registers v) there ends a = registers_left shape image at next s r h v.0 (registers_at image at) there refl ends a

@@ -8,8 +8,8 @@ use native.Mathlib.Omega.{arith}
 use lib.Dec.{ltb}
 use lib.ListN.{length, drop}
 use borrow.Author.Tests.{lt-ltb, ltb-true}
-use Rattle.groups.specs.declared.Found.{Found}
-use Rattle.groups.specs.declared.Found.TheVariants as found
+use Rattle.std.specs.Prelude.{Option, Some, None}
+use Rattle.state.specs.declared.words.Entry.{Entry}
 use Rattle.state.specs.declared.layout.Shape.{Shape}
 use Rattle.state.specs.declared.layout.InterfaceValue.TheVariants.{Control, PriorityMask, BinaryPoint, Depth}
 use Rattle.state.specs.Layout.{Slot, Interface, Sources, Stack, stack_capacity, size, Exists, Room}
@@ -20,12 +20,8 @@ use Rattle.state.proofs.Ready.{PutKeeps, Anywhere}
 use Rattle.state.proofs.Numbers.{then_local, put_local}
 use Rattle.state.proofs.Steps.{Local}
 use Rattle.image.specs.Parts.{Part, Registers, Service, Interrupt, PartThere}
-use Rattle.load.specs.declared.reading.FoundRegisters.{FoundRegisters}
-use Rattle.load.specs.declared.reading.FoundRegisters.TheVariants as registers
-use Rattle.load.specs.declared.reading.FoundEntry.{FoundEntry}
-use Rattle.load.specs.declared.reading.FoundEntry.TheVariants as entry
-use Rattle.load.specs.declared.reading.FoundRecord.{FoundRecord}
-use Rattle.load.specs.declared.reading.FoundRecord.TheVariants as records
+use Rattle.load.specs.declared.reading.RecordAndSources.{RecordAndSources}
+use Rattle.load.specs.declared.reading.InterfaceRegisters.{InterfaceRegisters}
 use Rattle.load.specs.Reading.{then_number, number_up_to, registers_at, record_found}
 use Rattle.load.specs.Walking.{registers_stored, entry_in, entry_spot, entry_stored, entries_stored, cleared_from, with_depth, service_stored, record_stored, part_stored}
 use Rattle.moving.proofs.StoredPlaces.{part_index, OfPart}
@@ -74,15 +70,15 @@ word_keeps shape Mine u x e m = record {
   bounded = record { puts = λ P keeps s p. keeps u x s e tt p; long = λ s. put_length shape s u x; past = λ s h. put_past shape s u x h.limits e };
 }
 
-pub entry_keeps : (shape : Shape) (Mine : Slot → Type 0) (v i : ℕ) (f : FoundEntry) → Exists shape (Stack v i) → Mine (Stack v i) → Keeps shape Mine (entry_stored shape v i f)
-entry_keeps shape Mine v i entry.Refused e m = idle_keeps
-entry_keeps shape Mine v i (entry.Read x next) e m = word_keeps shape Mine (Stack v i) _ e m
+pub entry_keeps : (shape : Shape) (Mine : Slot → Type 0) (v i : ℕ) (f : Option (Entry × ℕ)) → Exists shape (Stack v i) → Mine (Stack v i) → Keeps shape Mine (entry_stored shape v i f)
+entry_keeps shape Mine v i None e m = idle_keeps
+entry_keeps shape Mine v i (Some (x, next)) e m = word_keeps shape Mine (Stack v i) _ e m
 
 -- a part keeps to its slots
 module _ (shape : Shape) where
-  registers_keeps : (v : ℕ) (f : FoundRegisters) → v < shape.count → Keeps shape (OfPart shape (Registers (record { 0 = v }))) (registers_stored shape v f)
-  registers_keeps v registers.Refused b = idle_keeps
-  registers_keeps v (registers.Read control mask point next) b =
+  registers_keeps : (v : ℕ) (f : Option (InterfaceRegisters × ℕ)) → v < shape.count → Keeps shape (OfPart shape (Registers (record { 0 = v }))) (registers_stored shape v f)
+  registers_keeps v None b = idle_keeps
+  registers_keeps v (Some (r, next)) b =
       then_keeps (word_keeps shape _ (Interface v Control) _ b refl)
       (then_keeps (word_keeps shape _ (Interface v PriorityMask) _ b refl) (word_keeps shape _ (Interface v BinaryPoint) _ b refl))
 
@@ -90,10 +86,10 @@ module _ (shape : Shape) where
   unfolding service_stored cleared_from entries_stored
   service_keeps image v at b = go (number_up_to stack_capacity image at) refl
     where
-      go : (f : Found) → number_up_to stack_capacity image at ≡ f
+      go : (f : Option (ℕ × ℕ)) → number_up_to stack_capacity image at ≡ f
           → Keeps shape (OfPart shape (Service (record { 0 = v }))) (λ s. then_number s f (λ d next. entries_stored shape image v next d (with_depth shape v d s)))
-      go found.Refused p = idle_keeps
-      go (found.Number d next) p =
+      go None p = idle_keeps
+      go (Some (d, next)) p =
           let most : d ≤ stack_capacity = number_most stack_capacity image at d next p in
           then_keeps (word_keeps shape _ (Interface v Depth) d b refl)
           (then_keeps (up_keeps (λ i. without_entry shape v (d + i)) (stack_capacity - d) (λ i c. word_keeps shape _ (Stack v (d + i)) 0 (b, omega arith) refl))
@@ -103,16 +99,16 @@ module _ (shape : Shape) where
   unfolding record_slot
   sources_index v n sgi = rw (lt-ltb n 32 (omega arith))
 
-  record_keeps : (v n : ℕ) (f : FoundRecord) → RecordThere shape v n
+  record_keeps : (v n : ℕ) (f : Option (RecordAndSources × ℕ)) → RecordThere shape v n
       → Keeps shape (OfPart shape (Interrupt (record { 0 = v }) (record { 0 = n }))) (record_stored shape v n f)
-  record_keeps v n records.Refused there = idle_keeps
-  record_keeps v n (records.Read r x next) there = go (ltb n 16) refl
+  record_keeps v n None there = idle_keeps
+  record_keeps v n (Some (it, next)) there = go (ltb n 16) refl
     where
-      go : (b : Bool) → ltb n 16 ≡ b → Keeps shape (OfPart shape (Interrupt (record { 0 = v }) (record { 0 = n }))) (λ s. cond b (with_sources shape v n x (with_record shape v n r s)) (with_record shape v n r s))
+      go : (b : Bool) → ltb n 16 ≡ b → Keeps shape (OfPart shape (Interrupt (record { 0 = v }) (record { 0 = n }))) (λ s. cond b (with_sources shape v n it.sources (with_record shape v n it.«record» s)) (with_record shape v n it.«record» s))
       go true p =
           let sgi : n < 16 = ltb-true n 16 p in
           then_keeps (word_keeps shape _ (record_slot v n) _ (record_exists shape v n there) refl)
-          (word_keeps shape _ (Sources v n) x (there.banked (omega arith), sgi) (sources_index v n sgi))
+          (word_keeps shape _ (Sources v n) it.sources (there.banked (omega arith), sgi) (sources_index v n sgi))
       go false p = word_keeps shape _ (record_slot v n) _ (record_exists shape v n there) refl
 
   pub part_keeps : (image : List ℕ) (p : Part) (at : ℕ) → PartThere shape p → Keeps shape (OfPart shape p) (part_stored shape image p at)

@@ -12,7 +12,7 @@ use Rattle.state.specs.Layout.{Limits}
 use Rattle.image.specs.Image.{each, body_numbers}
 use Rattle.image.specs.Parts.{part_count, part_at, PartThere}
 use Rattle.image.proofs.ByParts.{each_none, numbers_of, body_by_parts}
-use Rattle.load.specs.declared.walking.Place.TheVariants.{At}
+use Rattle.std.specs.Prelude.{Some}
 use Rattle.load.specs.Walking.{walked}
 use Rattle.moving.specs.Reads.{Reads, LawfulPart}
 use Rattle.moving.proofs.BytesNumbers.{Row, row_none, row_append, row_each}
@@ -35,31 +35,31 @@ module _ (shape : Shape) (limits : Limits shape) (s image : List ℕ) (start : �
     part_read : (k : ℕ) → k < part_count shape → Reads shape image (part_at shape k) (placed k) (placed (suc k)) s
     part_read k b = row_reads shape s limits (part_at shape k) (there k b) (lawful k b) image (placed k) (placed (suc k)) (row_each (numbers_of shape s) (part_count shape) by_parts k b)
 
-    walked_at : (k : ℕ) → k ≤ part_count shape → walked shape image start k ≡ At (placed k)
+    walked_at : (k : ℕ) → k ≤ part_count shape → walked shape image start k ≡ Some (placed k)
     unfolding walked spelled
-    walked_at zero h = ap At (sym (add-zero start) ∙ rw (each_none (numbers_of shape s)) refl)
+    walked_at zero h = ap Some (sym (add-zero start) ∙ rw (each_none (numbers_of shape s)) refl)
     walked_at (suc k) h = rw (walked_at k (omega arith)) (reads_end shape s (part_at shape k) image (placed k) (placed (suc k)) (part_read k (omega arith)))
 
     -- the walk comes to the end of the bytes,
-    pub walked_through : walked shape image start (part_count shape) ≡ At next
-    walked_through = walked_at (part_count shape) (omega arith) ∙ ap At (sym by_parts.past)
+    pub walked_through : walked shape image start (part_count shape) ≡ Some next
+    walked_through = walked_at (part_count shape) (omega arith) ∙ ap Some (sym by_parts.past)
 
     -- and reads what the words hold
     pub walked_reads : (k : ℕ) → k < part_count shape → PartHeld shape image start k s
     walked_reads k b = record { at = placed k; next = placed (suc k); before = walked_at k (omega arith); after = walked_at (suc k) b; reads = part_read k b }
 
   module _ (all : (k : ℕ) → k < part_count shape → PartHeld shape image start k s) where
-    walked_row : (k : ℕ) → k ≤ part_count shape → (at : ℕ) → walked shape image start k ≡ At at → Row image start at (each (numbers_of shape s) k)
+    walked_row : (k : ℕ) → k ≤ part_count shape → (at : ℕ) → walked shape image start k ≡ Some at → Row image start at (each (numbers_of shape s) k)
     unfolding walked each
     walked_row zero h at e = let same : start ≡ at = cc in rw (← same) (row_none image start)
     walked_row (suc k) h at e =
         let it = all k h in
-        let same : At it.next ≡ At at = sym it.after ∙ e in
+        let same : Some it.next ≡ Some at = sym it.after ∙ e in
         let end : it.next ≡ at = cc in
         rw (← end) (row_append (walked_row k (omega arith) it.at it.before) (reads_row shape s (part_at shape k) image it.at it.next it.reads))
 
     -- what was walked through are the bytes of what was read,
-    pub walked_bytes : (end : ℕ) → walked shape image start (part_count shape) ≡ At end → Row image start end (body_numbers shape s)
+    pub walked_bytes : (end : ℕ) → walked shape image start (part_count shape) ≡ Some end → Row image start end (body_numbers shape s)
     walked_bytes end e = subst (λ (ns : List ℕ). Row image start end ns) (sym (body_by_parts shape s)) (walked_row (part_count shape) (omega arith) end e)
 
     -- and lawful

@@ -1,7 +1,6 @@
 -- What reading a part of an image gives is what some words hold there: this ties the bytes to the words, on both ways. A reader need not
 -- believe any of it; the promises are in proofs/Moving.antt.
-use Rattle.std.specs.Prelude.{◌≡◌, true, cond, List, ◌++◌, ℕ, suc, ◌+◌, ◌≤◌, ◌<◌, length, drop}
-use Rattle.groups.specs.declared.Found.TheVariants.{Number}
+use Rattle.std.specs.Prelude.{Some, ◌≡◌, true, cond, List, ◌++◌, ℕ, suc, ◌+◌, ◌≤◌, ◌<◌, length, drop}
 use Rattle.groups.specs.Groups.{spelled}
 use Rattle.interrupt.specs.Types.{is_sgi}
 use Rattle.state.specs.declared.layout.Shape.{Shape}
@@ -11,26 +10,23 @@ use Rattle.state.specs.Words.{record_at, sources_at, interface_at, entry_at}
 use Rattle.service.specs.Service.{depth_at, stack_to, running_of}
 use Rattle.lawful_test.specs.LawfulTest.{number_lawful, stack_lawful}
 use Rattle.image.specs.Parts.{Part, Registers, Service, Interrupt, part_numbers}
-use Rattle.load.specs.declared.reading.FoundRegisters.TheVariants as registers
-use Rattle.load.specs.declared.reading.FoundEntry.TheVariants as entry
-use Rattle.load.specs.declared.reading.FoundRecord.TheVariants as records
-use Rattle.load.specs.Reading.{number_up_to, registers_at, entry_found, record_found}
+use Rattle.load.specs.Reading.{number_up_to, registers_at, entry_found, record_found, registers_from, record_and_sources}
 
 -- entry after entry, from `first` to `next`
 pub record ServiceReads (shape : Shape) (image : List ℕ) (v at next : ℕ) (s : List ℕ) : Type 0 where
   pub places : ℕ → ℕ
-  pub depth : number_up_to stack_capacity image at ≡ Number (depth_at shape v s) (places 0)
+  pub depth : number_up_to stack_capacity image at ≡ Some (depth_at shape v s, places 0)
   pub entries : (i : ℕ) → i < depth_at shape v s
-      → entry_found shape (running_of (stack_to shape v s i)) image (places i) ≡ entry.Read (entry_at shape v i s) (places (suc i))
+      → entry_found shape (running_of (stack_to shape v s i)) image (places i) ≡ Some (entry_at shape v i s, places (suc i))
   pub ends : places (depth_at shape v s) ≡ next
 
 -- the part from `at` to `next`, read, is what the words hold
 abbrev pub Reads : Shape → List ℕ → Part → ℕ → ℕ → List ℕ → Type 0
 Reads shape image (Registers v) at next s =
-    registers_at image at ≡ registers.Read (interface_at shape v.0 Control s) (interface_at shape v.0 PriorityMask s) (interface_at shape v.0 BinaryPoint s) next
+    registers_at image at ≡ Some (registers_from (interface_at shape v.0 Control s) (interface_at shape v.0 PriorityMask s) (interface_at shape v.0 BinaryPoint s), next)
 Reads shape image (Service v) at next s = ServiceReads shape image v.0 at next s
 Reads shape image (Interrupt v n) at next s =
-    record_found shape v.0 n.0 image at ≡ records.Read (record_at shape v.0 n.0 s) (cond (is_sgi n) (sources_at shape v.0 n.0 s) 0) next
+    record_found shape v.0 n.0 image at ≡ Some (record_and_sources (record_at shape v.0 n.0 s) (cond (is_sgi n) (sources_at shape v.0 n.0 s) 0), next)
 
 -- a part that is lawful
 abbrev pub LawfulPart : Shape → List ℕ → Part → Type 0

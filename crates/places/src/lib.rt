@@ -19,8 +19,7 @@ fn byte_looks_up(register: ByteRegister, private: bool) -> bool
     match register {
         ByteRegister::Ipriorityr => private,
         ByteRegister::Itargetsr => false,
-        ByteRegister::Cpendsgir => true,
-        ByteRegister::Spendsgir => true,
+        ByteRegister::Cpendsgir | ByteRegister::Spendsgir => true,
     }
 }
 
@@ -28,41 +27,27 @@ fn byte_looks_up(register: ByteRegister, private: bool) -> bool
 fn sends(value: u32) -> bool
     ensures { result ≡ sends value }
 {
-    match sgi_target(value) {
-        SgiTarget::Mask(_) => true,
-        SgiTarget::AllExceptSelf => true,
-        SgiTarget::SelfOnly => true,
-        SgiTarget::Nobody => false,
-    }
+    !matches!(sgi_target(value), SgiTarget::Nobody)
 }
 
 pub fn read_looks_up(place: Place) -> bool
     ensures { result ≡ read_place_looks_up place.class place.«private» }
 {
-    let class = place.class;
-    match class {
-        Class::Ctlr => false,
-        Class::Typer => false,
-        Class::Iidr => false,
-        Class::Sgir => false,
+    match place.class {
         Class::Bits(_) => place.private,
         Class::Bytes(register) => byte_looks_up(register, place.private),
-        Class::Other => false,
+        Class::Ctlr | Class::Typer | Class::Iidr | Class::Sgir | Class::Other => false,
     }
 }
 
 pub fn write_looks_up(place: Place, value: u32) -> bool
     ensures { result ≡ write_place_looks_up place.class place.«private» value }
 {
-    let class = place.class;
-    match class {
-        Class::Ctlr => false,
-        Class::Typer => false,
-        Class::Iidr => false,
+    match place.class {
         Class::Sgir => sends(value),
         Class::Bits(_) => place.private,
         Class::Bytes(register) => byte_looks_up(register, place.private),
-        Class::Other => false,
+        Class::Ctlr | Class::Typer | Class::Iidr | Class::Other => false,
     }
 }
 
@@ -76,18 +61,22 @@ pub fn read_place(
     requires { PlaceRead shape vcpu.0 «place» width words.now }
     ensures { result ≡ read_place shape vcpu.0 «place» width words.now }
 {
-    let class = place.class;
-    let first = place.first;
-    match class {
+    match place.class {
         Class::Ctlr => read_control(words, shape),
         Class::Typer => typer(shape),
         Class::Iidr => iidr(),
-        Class::Sgir => 0,
-        Class::Bits(register) => read_bits(words, shape, vcpu, register, first),
+        Class::Sgir | Class::Other => 0,
+        Class::Bits(register) => read_bits(words, shape, vcpu, register, place.first),
         Class::Bytes(register) => {
-            read_bytes(words, shape, vcpu, register, first, width.size() as u32)
+            read_bytes(
+                words,
+                shape,
+                vcpu,
+                register,
+                place.first,
+                width.size() as u32,
+            )
         }
-        Class::Other => 0,
     }
 }
 
@@ -111,25 +100,21 @@ pub fn write_place(
     requires { PlaceWritten shape vcpu.0 «place» width value words.old }
     ensures { words.new ≡ write_place shape vcpu.0 «place» width value words.old }
 {
-    let class = place.class;
-    let first = place.first;
-    match class {
+    match place.class {
         Class::Ctlr => write_control(words, shape, value),
-        Class::Typer => {}
-        Class::Iidr => {}
         Class::Sgir => ring(words, shape, vcpu, value),
-        Class::Bits(register) => write_bits(words, shape, vcpu, register, first, value),
+        Class::Bits(register) => write_bits(words, shape, vcpu, register, place.first, value),
         Class::Bytes(register) => {
             write_bytes(
                 words,
                 shape,
                 vcpu,
                 register,
-                first,
+                place.first,
                 width.size() as u32,
                 value,
             );
         }
-        Class::Other => {}
+        Class::Typer | Class::Iidr | Class::Other => {}
     }
 }

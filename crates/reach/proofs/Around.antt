@@ -1,9 +1,9 @@
 -- What is written to a state is written to its slots, to the count's and the limit's never: a change of lent words that the others do not see
 -- comes to the same before a write and after it. Assumes nothing.
+use Rattle.std.specs.Prelude.{Option, None, Some}
 use mathlib.Core.Path.{◌≡◌, refl, ap, ◌∙◌}
 use mathlib.Core.Bool.{Bool, true, false, cond}
 use mathlib.Core.List.{List}
-use mathlib.Core.Option.{Option, none, some}
 use Prim.Native.Nat.{ℕ, zero, suc, ◌%◌, ◌≤◌, ◌<◌}
 use native.Mathlib.Omega.{arith}
 use lib.ListN.{length, get_or, set, length-set}
@@ -43,10 +43,10 @@ placewise_around shape wrap p = record {
 }
   where
     go : (o : Option ℕ) → SpiThere shape o → (w : ℕ) (r s : List ℕ) → Room shape s → r ≡ wrap s → summed shape o w r ≡ wrap (summed shape o w s)
-    go none there w r s h e = e
-    go (some n) there w r s h e =
+    go None there w r s h e = e
+    go (Some n) there w r s h e =
         let from = summary_from shape (summary_place shape n) (bit_in_summary shape n there) in
-        ap (summed shape (some n) w) e
+        ap (summed shape (Some n) w) e
         ∙ ap (λ (x : ℕ). set (wrap s) (summary_place shape n) (with_bit (n % 32) (is_ready (record_of w)) x)) (p.gets s h (summary_place shape n) (omega arith) (omega arith))
         ∙ p.sets s h (summary_place shape n) (with_bit (n % 32) (is_ready (record_of w)) (summary_at shape n s)) (omega arith) (omega arith)
 

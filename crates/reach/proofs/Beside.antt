@@ -1,5 +1,6 @@
 -- Two changes of lent words that no slot sees but the count's and the limit's: words put behind the state, and another count and limit. So no
 -- call but a setup or a load changes the count or the limit. Assumes nothing.
+use Rattle.std.specs.Prelude.{Some}
 use mathlib.Core.Path.{◌≡◌, refl, sym, ap, ◌∙◌}
 use mathlib.Core.Bool.{false}
 use mathlib.Core.List.{List, [], ◌∷◌, ◌++◌}
@@ -8,7 +9,6 @@ use native.Mathlib.Omega.{arith}
 use lib.ListN.{length, get_or, set, drop, get_or-append}
 use lib.Seq.{set-append_left}
 use Rattle.state.specs.declared.layout.Shape.{Shape}
-use Rattle.state.specs.declared.lent.Lent.TheVariants.{Sound}
 use Rattle.state.specs.Lent.{validated}
 use Rattle.state.proofs.Validated.{validated_held}
 use Rattle.history.specs.History.{Call, is_start, called}
@@ -50,7 +50,7 @@ own_head [] h = absurd (omega (arith, h))
 own_head (a ∷ []) h = absurd (omega (arith, h))
 own_head (a ∷ b ∷ s) h = refl
 
-pub head_stays : {shape : Shape} (c : Call) (s : List ℕ) → is_start c ≡ false → validated s ≡ Sound shape
+pub head_stays : {shape : Shape} (c : Call) (s : List ℕ) → is_start c ≡ false → validated s ≡ Some shape
     → (get_or (called c s).state 0 0 ≡ get_or s 0 0) × (get_or (called c s).state 1 0 ≡ get_or s 1 0)
 head_stays {shape} c s other valid =
     let same = ap (λ (r : List ℕ). (called c r).state) (sym own) ∙ ap (λ o. o.state) (call_carries (before (get_or s 0 0) (get_or s 1 0) shape) s valid (ap validated own ∙ valid) c other).same in

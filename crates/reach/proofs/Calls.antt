@@ -1,5 +1,6 @@
 -- Every call on a state goes through a change of lent words that the slots do not see: it hands out the same, and leaves the changed words as it
 -- would have left the others, changed. Assumes nothing.
+use Rattle.std.specs.Prelude.{Option, Some, None, Result, Ok, Err}
 use mathlib.Core.Path.{◌≡◌, refl, sym, ap, ◌∙◌}
 use mathlib.Core.Bool.{true, Bool, cond, true≢false, false}
 use mathlib.Core.List.{List, ◌++◌}
@@ -28,8 +29,6 @@ use Rattle.places.proofs.Sounds.{place_sound}
 use Rattle.distributor_frame.specs.DistributorFrame.{private_width, read_distributor_access, write_distributor_access, read_v2_distributor, write_v2_distributor}
 use Rattle.distributor_frame.proofs.Passed.{place_read, place_written}
 use Rattle.input.specs.declared.Signal.{Signal}
-use Rattle.input.specs.declared.InputNumber.{InputNumber}
-use Rattle.input.specs.declared.InputNumber.TheVariants.{Device, Outside}
 use Rattle.input.specs.Input.{signalled, signal_went, input_of, input_at, device_input}
 use Rattle.input.proofs.Passed.{input_there, changed_sound}
 use Rattle.reach.proofs.Readings.{Alike, record_alike, control_alike, enabled_alike, bits_alike, bytes_alike, acknowledge_alike}
@@ -37,24 +36,16 @@ use Rattle.reach.proofs.Images.{lawful_alike, image_alike}
 use Rattle.reach.proofs.Around.{Around, Passes, none_passes, if_through, put_through, changed_through}
 use Rattle.reach.proofs.Distributor.{bits_through, bytes_through, sgir_through}
 use Rattle.reach.proofs.Outcomes.{wrapped, Carries, refused_carries, gave_carries, looked_carries, went_carries, with_carries}
-use Rattle.register.specs.declared.cpu_interface.CpuInterfaceAccess.{CpuInterfaceAccess}
-use Rattle.register.specs.declared.cpu_interface.CpuInterfaceAccess.TheVariants as interface
 use Rattle.register.specs.CpuInterface.{locate_cpu_interface}
 use Rattle.state.specs.Lent.{validated}
-use Rattle.state.specs.declared.lent.Lent.{Lent}
-use Rattle.state.specs.declared.lent.Lent.TheVariants as lent
 use Rattle.service.proofs.Soundness.{validated_sound}
 use Rattle.answer.specs.Answer.{Outcome, refused, gave, went, on_state, absent, looked_up}
 use Rattle.answer.proofs.Present.{present}
 use Rattle.cpu_interface.specs.CpuInterface.{read_register, after_read, write_register, write_retired, read_register_looks_up, write_register_looks_up}
 use Rattle.cpu_interface_frame.specs.CpuInterfaceFrame.{read_answer, read_interface_access, write_interface_access, read_v2_cpu_interface, write_v2_cpu_interface}
 use Rattle.delivery.proofs.Sounds.{write_sound}
-use Rattle.acknowledge.specs.declared.Read.{Read}
 use Rattle.wake.specs.Wake.{gives_number}
 use Rattle.message_frame.specs.declared.Window.{Window}
-use Rattle.message_frame.specs.declared.DecodedWindow.TheVariants as window
-use Rattle.message_frame.specs.declared.MessageAccess.{MessageAccess}
-use Rattle.message_frame.specs.declared.MessageAccess.TheVariants as message
 use Rattle.message_frame.specs.MessageFrame.{is_window, window_of, decoded_window, on_window, locate_v2m, read_message, rings_spi, read_message_access, write_message_access, read_v2m, write_v2m}
 use Rattle.message_frame.proofs.Windows.{rung_spi}
 use Rattle.look.specs.Look.{line_level, interrupt_at, irq_level, interrupt_word}
@@ -64,6 +55,10 @@ use Rattle.image.specs.Image.{image}
 use Rattle.save.specs.Save.{Saved, into_buffer, saved_from, save}
 use Rattle.history.specs.History.{Call, Setup, ReadDistributor, WriteDistributor, ReadCpuInterface, WriteCpuInterface, SetLevel, Pulse, ReadV2m, WriteV2m, IrqLevel, InterruptWord, Save, Load, is_start, called}
 use Rattle.reach.proofs.Registers.{register_read, register_written}
+use Rattle.message_frame.specs.declared.MessageRegister.{MessageRegister}
+use Rattle.register.specs.declared.frame.Refusal.{Refusal}
+use Rattle.interrupt.specs.declared.types.IntId.{IntId}
+use Rattle.register.specs.declared.cpu_interface.CpuInterfaceRegister.{CpuInterfaceRegister}
 
 module _ {shape : Shape} {wrap : List ℕ → List ℕ} (around : Around shape wrap) (s : List ℕ) (h : Sound shape s) where
   abbrev same : Alike shape (wrap s) s
@@ -119,9 +114,9 @@ module _ {shape : Shape} {wrap : List ℕ → List ℕ} (around : Around shape w
   signal_carries v n signal there =
       went_carries around s h (λ r. 1023) (changed shape v n (signalled signal)) refl (changed_through around v n (signalled signal) there s h.state) (changed_sound shape v n (signalled signal) s h there)
 
-  input : (v n : ℕ) (signal : Signal) (a : InputNumber) → input_of shape n ≡ a → Carries wrap (input_at shape v signal a) s
-  input v n signal Outside p = refused_carries s refusal.Input
-  input v n signal (Device k) p =
+  input : (v n : ℕ) (signal : Signal) (a : Option IntId) → input_of shape n ≡ a → Carries wrap (input_at shape v signal a) s
+  input v n signal None p = refused_carries s refusal.Input
+  input v n signal (Some k) p =
       looked_carries s shape v (ltb k.0 32) (λ e. signal_carries v k.0 signal (input_there shape v n k p e))
 
   -- the message frame
@@ -131,26 +126,26 @@ module _ {shape : Shape} {wrap : List ℕ → List ℕ} (around : Around shape w
     unfolding decoded_window
     on_window_lem f g = go (is_window shape first count) refl
       where
-        go : (b : Bool) → is_window shape first count ≡ b → Carries wrap (λ r. on_window (cond b (window.Valid (window_of first count)) window.Outside) r (λ w. f w r)) s
+        go : (b : Bool) → is_window shape first count ≡ b → Carries wrap (λ r. on_window (cond b (Some (window_of first count)) None) r (λ w. f w r)) s
         go true e = g e
         go false e = refused_carries s refusal.Window
 
-    message_read : (a : MessageAccess) → Carries wrap (read_message_access (window_of first count) a) s
-    message_read (message.Refused r) = refused_carries s r
-    message_read (message.At register) = gave_carries s (λ r. read_message (window_of first count) register) refl
+    message_read : (a : Result MessageRegister Refusal) → Carries wrap (read_message_access (window_of first count) a) s
+    message_read (Err r) = refused_carries s r
+    message_read (Ok register) = gave_carries s (λ r. read_message (window_of first count) register) refl
 
-    message_write : (a : MessageAccess) (n : ℕ) → is_window shape first count ≡ true → Carries wrap (write_message_access shape (window_of first count) a n) s
-    message_write (message.Refused r) n it = refused_carries s r
-    message_write (message.At register) n it = go (rings_spi (window_of first count) register n) refl
+    message_write : (a : Result MessageRegister Refusal) (n : ℕ) → is_window shape first count ≡ true → Carries wrap (write_message_access shape (window_of first count) a n) s
+    message_write (Err r) n it = refused_carries s r
+    message_write (Ok register) n it = go (rings_spi (window_of first count) register n) refl
       where
         go : (b : Bool) → rings_spi (window_of first count) register n ≡ b → Carries wrap (λ r. went shape 1023 r (cond b (changed shape 0 n (signalled Edge) r) r)) s
         go true e = signal_carries 0 n Edge ((rung_spi shape first count it register n e).there 0)
         go false e = went_carries around s h (λ r. 1023) (λ r. r) refl (none_passes s) h
 
   -- a CPU interface
-  interface_read : (v : ℕ) (a : CpuInterfaceAccess) → Carries wrap (read_interface_access shape v a) s
-  interface_read v (interface.Refused r) = refused_carries s r
-  interface_read v (interface.At register) =
+  interface_read : (v : ℕ) (a : Result CpuInterfaceRegister Refusal) → Carries wrap (read_interface_access shape v a) s
+  interface_read v (Err r) = refused_carries s r
+  interface_read v (Ok register) =
       with_carries s (enabled_at shape) (λ on r. looked_up (read_register_looks_up register on) shape v r (read_answer (read_register shape v register r) r (after_read shape v register r)))
       (enabled_alike same)
       (looked_carries s shape v looks_up (λ e. register_read around s h v register (present looks_up shape v e)))
@@ -158,9 +153,9 @@ module _ {shape : Shape} {wrap : List ℕ → List ℕ} (around : Around shape w
       looks_up : Bool
       looks_up = read_register_looks_up register (enabled_at shape s)
 
-  interface_write : (v value : ℕ) (a : CpuInterfaceAccess) → Carries wrap (write_interface_access shape v a value) s
-  interface_write v value (interface.Refused r) = refused_carries s r
-  interface_write v value (interface.At register) =
+  interface_write : (v value : ℕ) (a : Result CpuInterfaceRegister Refusal) → Carries wrap (write_interface_access shape v a value) s
+  interface_write v value (Err r) = refused_carries s r
+  interface_write v value (Ok register) =
       let looks_up : Bool = write_register_looks_up register value in
       looked_carries s shape v looks_up
       (λ e.
@@ -174,7 +169,7 @@ module _ {shape : Shape} {wrap : List ℕ → List ℕ} (around : Around shape w
       looked_carries s shape v true
       (λ e.
       let exists = present true shape v e refl in
-      gave_carries s (λ r. bit_of (line_level shape v r)) (ap (λ (a : Read). bit_of (gives_number a)) (acknowledge_alike same v exists (h.depths v exists))))
+      gave_carries s (λ r. bit_of (line_level shape v r)) (ap (λ (a : Option ℕ). bit_of (gives_number a)) (acknowledge_alike same v exists (h.depths v exists))))
 
   interrupt_look : (v n : ℕ) → Carries wrap (interrupt_at shape v n) s
   interrupt_look v n = go (ltb n shape.limit) refl
@@ -202,13 +197,13 @@ module _ {shape : Shape} {wrap : List ℕ → List ℕ} (around : Around shape w
     tested_carries written true = into_carries written
     tested_carries written false = refused_carries s refusal.Unlawful
 
-    save_carries : Carries wrap (λ r. (saved_from (lent.Sound shape) r buffer).outcome) s
+    save_carries : Carries wrap (λ r. (saved_from (Some shape) r buffer).outcome) s
     save_carries =
         with_carries s (image shape) (λ written r. tested written (is_lawful shape r) r) (image_alike same h)
         (with_carries s (is_lawful shape) (tested (image shape s)) (lawful_alike same h) (tested_carries (image shape s) (is_lawful shape s)))
 
 -- words that pass the test of refusal 6 before the change and after it
-module _ {shape : Shape} {wrap : List ℕ → List ℕ} (around : Around shape wrap) (s : List ℕ) (valid : validated s ≡ lent.Sound shape) (too : validated (wrap s) ≡ lent.Sound shape) where
+module _ {shape : Shape} {wrap : List ℕ → List ℕ} (around : Around shape wrap) (s : List ℕ) (valid : validated s ≡ Some shape) (too : validated (wrap s) ≡ Some shape) where
   on_state_lem : (f : Shape → List ℕ → Outcome) → Carries wrap (f shape) s → Carries wrap (λ r. on_state (validated r) r (λ k. f k r)) s
   on_state_lem f p = record { same = simp (valid, too) p.same; long = simp valid p.long }
 
@@ -240,7 +235,7 @@ module _ {shape : Shape} {wrap : List ℕ → List ℕ} (around : Around shape w
   call_carries (Save buffer) e =
       let p = save_carries around s sound buffer in
       record {
-        same = ap (λ (l : Lent). (saved_from l (wrap s) buffer).outcome) too ∙ p.same ∙ ap (λ (l : Lent). wrapped wrap (saved_from l s buffer).outcome) (sym valid);
-        long = ap (λ (l : Lent). length (saved_from l s buffer).outcome.state) valid ∙ p.long;
+        same = ap (λ (l : Option Shape). (saved_from l (wrap s) buffer).outcome) too ∙ p.same ∙ ap (λ (l : Option Shape). wrapped wrap (saved_from l s buffer).outcome) (sym valid);
+        long = ap (λ (l : Option Shape). length (saved_from l s buffer).outcome.state) valid ∙ p.long;
       }
   call_carries (Load b) e = absurd (true≢false e)

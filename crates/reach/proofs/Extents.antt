@@ -1,4 +1,5 @@
 -- Words behind a call's extent: the call hands out the same without them, and leaves them as they are. Assumes nothing.
+use Rattle.std.specs.Prelude.{Option, Some, None}
 use mathlib.Core.Path.{◌≡◌, refl, sym, ap, ◌∙◌}
 use mathlib.Core.Bool.{Bool, true, false, cond, ◌&&◌, true≢false}
 use mathlib.Core.List.{List, ◌++◌}
@@ -11,10 +12,6 @@ use borrow.Author.Tests.{le-leb}
 use Rattle.register.specs.declared.frame.Refusal.TheVariants.{BrokenState, ShortState}
 use Rattle.state.specs.declared.layout.Shape.{Shape}
 use Rattle.state.specs.declared.layout.InterfaceValue.TheVariants.{Depth}
-use Rattle.state.specs.declared.lent.Limited.{Limited}
-use Rattle.state.specs.declared.lent.Limited.TheVariants.{Within, Outside}
-use Rattle.state.specs.declared.lent.Lent.{Lent}
-use Rattle.state.specs.declared.lent.Lent.TheVariants.{Sound, Broken}
 use Rattle.state.specs.Fresh.{started_at, fresh}
 use Rattle.state.specs.Words.{start_at}
 use Rattle.state.specs.Layout.{Interface, size, Room, stack_capacity}
@@ -42,13 +39,13 @@ other_extent c s = go (deed c)
     go (Starts count limit) e = absurd (true≢false e)
     go (Acts a) e = refl
 
-two_words : (l : Limited) → 2 ≤ size_or 2 l
-two_words Outside = omega arith
-two_words (Within shape) = omega arith
+two_words : (l : Option Shape) → 2 ≤ size_or 2 l
+two_words None = omega arith
+two_words (Some shape) = omega arith
 
-size_in_lem : (l : Limited) → size_in l ≡ size_or 0 l
-size_in_lem Outside = refl
-size_in_lem (Within shape) = refl
+size_in_lem : (l : Option Shape) → size_in l ≡ size_or 0 l
+size_in_lem None = refl
+size_in_lem (Some shape) = refl
 
 load_long : (bytes s : List ℕ) → length (called (Load bytes) s).state ≡ length s
 load_long bytes s = load_cases bytes s (λ o. length o.state ≡ length s) refl refl (λ after it. it.long)
@@ -61,9 +58,9 @@ module _ (a x : List ℕ) where
   stored_same : 2 ≤ length a → stored_shape (a ++ x) ≡ stored_shape a
   stored_same h = λ i. limited (get_or-append a x 0 0 (omega (arith, h)) i) (get_or-append a x 0 1 (omega (arith, h)) i)
 
-  tested_same : (l : Limited) → stored_shape a ≡ l → size_or 2 l ≤ length a → lent_as (a ++ x) l ≡ lent_as a l
-  tested_same Outside p h = refl
-  tested_same (Within shape) p h = λ i. cond (roomy i && every_same (depth_fits shape (a ++ x)) (depth_fits shape a) shape.count fits i) (Sound shape) Broken
+  tested_same : (l : Option Shape) → stored_shape a ≡ l → size_or 2 l ≤ length a → lent_as (a ++ x) l ≡ lent_as a l
+  tested_same None p h = refl
+  tested_same (Some shape) p h = λ i. cond (roomy i && every_same (depth_fits shape (a ++ x)) (depth_fits shape a) shape.count fits i) (Some shape) None
     where
       room : Room shape a
       room = record { limits = limited_limits (get_or a 0 0) (get_or a 1 0) shape p; room = h }
@@ -92,9 +89,9 @@ module _ (a x : List ℕ) where
     unfolding fresh
     fresh_same = started_same (size shape) h
 
-  setup_carries : (l : Limited) → size_or 0 l ≤ length a → Carries (λ s. s ++ x) (setup_of l) a
-  setup_carries Outside h = record { same = refl; long = refl }
-  setup_carries (Within shape) h = record {
+  setup_carries : (l : Option Shape) → size_or 0 l ≤ length a → Carries (λ s. s ++ x) (setup_of l) a
+  setup_carries None h = record { same = refl; long = refl }
+  setup_carries (Some shape) h = record {
     same = simp (le-leb (size shape) (length (a ++ x)) (longer h), le-leb (size shape) (length a) h, fresh_same shape h);
     long = simp (le-leb (size shape) (length a) h, fresh_length shape a);
   }
@@ -111,9 +108,9 @@ module _ (a x : List ℕ) where
     other_carries : Carries (λ s. s ++ x) (called c) a
     other_carries = go (validated a) refl
       where
-        go : (l : Lent) → validated a ≡ l → Carries (λ s. s ++ x) (called c) a
-        go (Sound shape) p = call_carries (behind shape x) a p (valid_same ∙ p) c other
-        go Broken p =
+        go : (l : Option Shape) → validated a ≡ l → Carries (λ s. s ++ x) (called c) a
+        go (Some shape) p = call_carries (behind shape x) a p (valid_same ∙ p) c other
+        go None p =
             let refuses : called c a ≡ refused BrokenState a = (broken_call c other a p).0 in
             record { same = (broken_call c other (a ++ x) (valid_same ∙ p)).0 ∙ ap (wrapped (λ s. s ++ x)) (sym refuses); long = ap (λ o. length o.state) refuses }
 
@@ -137,9 +134,9 @@ unfolding setup
 call_long c s =
     setup_load_or_other (λ d. length (called d s).state ≡ length s) (λ count limit. setup_long (limited count limit)) (λ bytes. load_long bytes s) other_long c
   where
-    setup_long : (l : Limited) → length (setup_of l s).state ≡ length s
-    setup_long Outside = refl
-    setup_long (Within shape) = go (leb (size shape) (length s))
+    setup_long : (l : Option Shape) → length (setup_of l s).state ≡ length s
+    setup_long None = refl
+    setup_long (Some shape) = go (leb (size shape) (length s))
       where
         go : (b : Bool) → length (cond b (gave 0 (fresh shape s)) (refused ShortState s)).state ≡ length s
         go true = fresh_length shape s

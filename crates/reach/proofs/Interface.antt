@@ -1,5 +1,6 @@
 -- An acknowledge, EOIR and Deactivate go through a change of lent words that the slots do not see; what they hand out is the same. Assumes
 -- nothing.
+use Rattle.std.specs.Prelude.{Option, Some, None}
 use mathlib.Core.Path.{◌≡◌, refl, ap, ◌∙◌}
 use mathlib.Core.Bool.{Bool, true, false, cond, ◌&&◌}
 use mathlib.Core.List.{List}
@@ -17,8 +18,6 @@ use Rattle.state.specs.Words.{RecordThere, record_at, changed, sources_at, kept,
 use Rattle.state.proofs.Tests.{left_true}
 use Rattle.sgi.specs.Sgi.{merged_sources}
 use Rattle.select.specs.declared.Candidate.{Candidate}
-use Rattle.select.specs.declared.Selected.{Selected}
-use Rattle.select.specs.declared.Selected.TheVariants.{Best, Nothing}
 use Rattle.service.specs.Service.{depth_at, stack_at, is_newest, pushed, popped, dropped, Served}
 use Rattle.service.proofs.Stacks.{newest_some}
 use Rattle.acknowledge.specs.Acknowledge.{group_of, offer, source_of, pend_if_left, source_taken, given_record, pushed_for, given, taken, acknowledged}
@@ -87,10 +86,10 @@ module _ {shape : Shape} {wrap : List ℕ → List ℕ} (around : Around shape w
         (with_passes (source_of shape v n) (λ source r. source_taken shape v n source (changed shape v n (given_record v) (pushed shape v entry r))) (source_of_alike same v exists n)
         (then_passes push (then_through (changed_through around v n (given_record v) (there below)) (source_through n (source_of shape v n s) (there below)) (pushed shape v entry s) (long_room push.long h.state))))
 
-    taken_passes : (b : Selected) → offer shape v s ≡ b → Passes wrap (λ r. taken shape v r b) s
+    taken_passes : (b : Option Candidate) → offer shape v s ≡ b → Passes wrap (λ r. taken shape v r b) s
     unfolding taken
-    taken_passes Nothing p = none_passes s
-    taken_passes (Best e) p =
+    taken_passes None p = none_passes s
+    taken_passes (Some e) p =
         choice_passes (λ r. ltb (depth_at shape v r) stack_capacity) (ap (λ (d : ℕ). ltb d stack_capacity) depth_alike)
         (λ q. given_passes e (ltb-true depth stack_capacity q) (offer_below shape v s e p)) (λ q. none_passes s)
 

@@ -1,5 +1,6 @@
 -- Document 01: "Bytes past it never change"; nor are they ever read. Of one call on any words; of calls without a setup or load on any words; of
 -- an accepted setup or load and such calls after it; of any history at all. Assumes nothing.
+use Rattle.std.specs.Prelude.{Option, Some, None}
 use mathlib.Core.Path.{◌≡◌, refl, sym, ap, ◌∙◌}
 use mathlib.Core.Bool.{true, false, not}
 use mathlib.Core.List.{List, [], ◌∷◌}
@@ -8,8 +9,6 @@ use native.Mathlib.Omega.{arith}
 use lib.ListN.{length, get_or, take, drop}
 use borrow.Author.Tests.{not-true}
 use Rattle.state.specs.declared.layout.Shape.{Shape}
-use Rattle.state.specs.declared.lent.Limited.{Limited}
-use Rattle.state.specs.declared.lent.Limited.TheVariants.{Within, Outside}
 use Rattle.state.specs.Layout.{size, largest_size}
 use Rattle.state.specs.Lent.{shaped, limited, stored_shape, HoldsState}
 use Rattle.state.proofs.Places.{size_bound}
@@ -57,15 +56,15 @@ module _ (cs : List Call) (others : no_start cs ≡ true) (s : List ℕ) where
   past_never_read r = calls_never_read (stored_extent s) cs s r (no_start_reach (stored_extent s) cs others s (omega arith))
 
 -- a setup or load that is accepted, and such calls after it
-pub held_stored : (shape : Shape) (s : List ℕ) → HoldsState shape s → stored_shape s ≡ Within shape
+pub held_stored : (shape : Shape) (s : List ℕ) → HoldsState shape s → stored_shape s ≡ Some shape
 held_stored shape s h =
     let c : get_or s 0 0 ≡ shape.count = ap (λ (t : Shape). t.count) (sym h.stored) in
     let l : get_or s 1 0 ≡ shape.limit = ap (λ (t : Shape). t.limit) (sym h.stored) in
     (λ i. limited (c i) (l i)) ∙ limits_limited shape h.state.limits
 
-own_size : (count limit : ℕ) (l : Limited) → limited count limit ≡ l → size_or 0 l ≤ size (shaped count limit)
-own_size count limit Outside p = omega arith
-own_size count limit (Within shape) p = rw (limited_shape count limit shape p) (omega arith)
+own_size : (count limit : ℕ) (l : Option Shape) → limited count limit ≡ l → size_or 0 l ≤ size (shaped count limit)
+own_size count limit None p = omega arith
+own_size count limit (Some shape) p = rw (limited_shape count limit shape p) (omega arith)
 
 module _ (shape : Shape) (first : Call) (starts : deed first ≡ Starts shape.count shape.limit) (words : List ℕ) (accepted : (called first words).refusal ≡ 0) (cs : List Call) (others : no_start cs ≡ true) where
   start_reach : ReachAtMost (size shape) (first ∷ cs) words
@@ -80,9 +79,9 @@ module _ (shape : Shape) (first : Call) (starts : deed first ≡ Starts shape.co
   words_past_unread r = calls_never_read (size shape) (first ∷ cs) words r start_reach
 
 -- no call reaches past the largest state
-largest : (other : ℕ) → other ≤ largest_size → (count limit : ℕ) (l : Limited) → limited count limit ≡ l → size_or other l ≤ largest_size
-largest other h count limit Outside p = h
-largest other h count limit (Within shape) p = size_bound shape (limited_limits count limit shape p)
+largest : (other : ℕ) → other ≤ largest_size → (count limit : ℕ) (l : Option Shape) → limited count limit ≡ l → size_or other l ≤ largest_size
+largest other h count limit None p = h
+largest other h count limit (Some shape) p = size_bound shape (limited_limits count limit shape p)
 
 pub extent_bound : (c : Call) (s : List ℕ) → extent c s ≤ largest_size
 extent_bound c s = go (deed c)

@@ -1,5 +1,6 @@
 -- What is read of a state is read of its slots, of the count's and the limit's never: words that agree on the others are read alike. Assumes
 -- nothing.
+use Rattle.std.specs.Prelude.{Option, Some, None}
 use mathlib.Core.Path.{◌≡◌, refl, ap, ◌∙◌}
 use mathlib.Core.Bool.{Bool, true, false, not, cond, ◌&&◌}
 use mathlib.Core.List.{List}
@@ -27,12 +28,9 @@ use Rattle.bits.specs.Bits.{field_bits, per_word, read_field, read_number, read_
 use Rattle.targets.specs.Targets.{own_byte, read_target}
 use Rattle.distributor.specs.Bytes.{read_priority, read_byte, read_bytes, ByteThere}
 use Rattle.select.specs.declared.Candidate.{Candidate}
-use Rattle.select.specs.declared.Selected.{Selected}
-use Rattle.select.specs.declared.Selected.TheVariants.{Best, Nothing}
 use Rattle.select.specs.Select.{eligible, ready_at, candidate, better, best_among, best_below, best, both_on, selected_number, highest_pending}
 use Rattle.service.specs.Service.{depth_at, stack_at, running_of, running, is_newest, Sound}
 use Rattle.service.proofs.Stacks.{stack_same}
-use Rattle.acknowledge.specs.declared.Read.TheVariants.{Value, StackFull}
 use Rattle.acknowledge.specs.Acknowledge.{group_priority, group_of, preempts, preempting, offer, lowest_source, source_of, answered, acknowledge}
 use Rattle.end.specs.End.{served_here, retired, deactivates}
 use Rattle.wake.specs.Wake.{is_spurious, gives_number, woken, wake_set}
@@ -160,20 +158,20 @@ module _ {shape : Shape} {r s : List ℕ} (same : Alike shape r s) where
       preempts_alike : (c : Candidate) → preempts shape v r c ≡ preempts shape v s c
       preempts_alike c = λ i. ltb (group_of_alike c i) (running_alike i)
 
-      preempting_alike : (b : Selected) → preempting shape v r b ≡ preempting shape v s b
-      preempting_alike Nothing = refl
-      preempting_alike (Best c) = ap (λ (q : Bool). cond q (Best c) Nothing) (preempts_alike c)
+      preempting_alike : (b : Option Candidate) → preempting shape v r b ≡ preempting shape v s b
+      preempting_alike None = refl
+      preempting_alike (Some c) = ap (λ (q : Bool). cond q (Some c) None) (preempts_alike c)
 
       pub offer_alike : offer shape v r ≡ offer shape v s
       unfolding offer
       offer_alike =
-          (λ i. cond (both_alike i) (preempting shape v r (best_alike shape.limit (omega arith) i)) Nothing)
-          ∙ ap (λ (b : Selected). cond (both_on shape v s) b Nothing) (preempting_alike (best shape v s))
+          (λ i. cond (both_alike i) (preempting shape v r (best_alike shape.limit (omega arith) i)) None)
+          ∙ ap (λ (b : Option Candidate). cond (both_on shape v s) b None) (preempting_alike (best shape v s))
 
-      answered_alike : (b : Selected) → answered shape v r b ≡ answered shape v s b
+      answered_alike : (b : Option Candidate) → answered shape v r b ≡ answered shape v s b
       unfolding answered
-      answered_alike Nothing = refl
-      answered_alike (Best e) = λ i. cond (ltb (interface_alike Depth i) stack_capacity) (Value (e.intid.0 + 1024 * source_of_alike e.intid.0 i)) StackFull
+      answered_alike None = refl
+      answered_alike (Some e) = λ i. cond (ltb (interface_alike Depth i) stack_capacity) (Some (e.intid.0 + 1024 * source_of_alike e.intid.0 i)) None
 
       pub acknowledge_alike : acknowledge shape v r ≡ acknowledge shape v s
       acknowledge_alike = answered_alike (offer shape v r) ∙ ap (answered shape v s) offer_alike

@@ -1,16 +1,15 @@
 -- How far calls reach into the lent words, whatever these hold: document 01, "The part that is ported": "its size for a count and limit is the
 -- team's, stated in docs/. Bytes past it never change." Past its extent a call writes nothing and reads nothing.
-use Rattle.std.specs.Prelude.{◌≡◌, List, [], ◌∷◌, ℕ, ◌≤◌, take}
-use Rattle.state.specs.declared.lent.Limited.{Limited}
-use Rattle.state.specs.declared.lent.Limited.TheVariants.{Within, Outside}
+use Rattle.std.specs.Prelude.{◌≡◌, List, [], ◌∷◌, ℕ, ◌≤◌, take, Option, Some, None}
 use Rattle.state.specs.Layout.{size}
 use Rattle.state.specs.Lent.{limited, stored_shape}
 use Rattle.history.specs.History.{Call, Deed, Starts, Acts, deed, called, run, answers}
+use Rattle.state.specs.declared.layout.Shape.{Shape}
 
 -- the words of a state of this count and limit; `other` where they are out of range
-abbrev pub size_or : ℕ → Limited → ℕ
-size_or other Outside = other
-size_or other (Within shape) = size shape
+abbrev pub size_or : ℕ → Option Shape → ℕ
+size_or other None = other
+size_or other (Some shape) = size shape
 
 -- the words that hold a state by their stored count and limit; where these are out of range, the two words that store them
 abbrev pub stored_extent : List ℕ → ℕ

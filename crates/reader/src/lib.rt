@@ -4,22 +4,20 @@
 ghost use Rattle.std.specs.Prelude.{◌≡◌, ◌≤◌};
 ghost use Rattle.groups.specs.Groups.{found_at};
 
-use groups::Found;
-
 #[derive(Clone, Copy)]
 pub struct Reader<'a> {
     pub image: &'a [u8],
     pub at: usize,
 }
 
-pub fn next<'a>(reader: Reader<'a>, left: u32) -> Found
+pub fn next<'a>(reader: Reader<'a>, left: u32) -> Option<(u32, usize)>
     requires { left ≤ 4 }
     ensures { result ≡ found_at left reader.entry.image.now reader.entry.at }
 {
     groups::number_at(reader.image, reader.at, left)
 }
 
-pub fn read(image: &[u8], at: usize, left: u32) -> Found
+pub fn read(image: &[u8], at: usize, left: u32) -> Option<(u32, usize)>
     requires { left ≤ 4 }
     ensures { result ≡ found_at left image.now at }
 {

@@ -5,7 +5,7 @@ use mathlib.Core.Bool.{Bool, true, false, cond, ◌&&◌, and-false}
 use mathlib.Core.List.{List, [], ◌∷◌}
 use mathlib.Core.Logic.{◌⊎◌, inl, inr}
 use Prim.Native.Nat.{ℕ, zero, suc, suc-le-suc, ◌+◌, ◌*◌, ◌/◌, ◌%◌, ◌≤◌, ◌<◌}
-use native.Mathlib.Nat.{le_of_suc-le-suc, not-suc-le-zero}
+use native.Mathlib.Nat.{zero-add, le_of_suc-le-suc, not-suc-le-zero}
 use native.Mathlib.Omega.{arith}
 use lib.Dec.{T, leb, ltb, eqb, leb→le, ltb→lt, eqb→eq}
 use lib.ListN.{length, get_or, get_or-eq_default}
@@ -200,7 +200,7 @@ rows_in_words n h = at in_words ranges tt n nowhere h
 pub range_whole : (o : ℕ) → (range_at o ≡ nowhere) ⊎ Whole (range_at o) o
 range_whole o = by_row (λ r. (r ≡ nowhere) ⊎ Whole r o) o (λ n h t. inr (whole (range_numbered n) n o (rows_in_words n h) t)) (inl refl)
 
--- the class numbers of the 32 places of a row, computed: what the dispatch table has to be ..
+-- the class numbers of the 32 places of a row, computed: what a row of the dispatch table has to be ..
 unfoldable pub class_row : ℕ → List ℕ
 class_row k = tabulate (λ (place : ℕ). class_number (class_at (4 * place))) (32 * k) 32
 
@@ -211,6 +211,16 @@ class_row_lem k at i h = get_d_tabulate number (32 * k) 32 i 0 h ∙ ap (λ (m :
   where
     number : ℕ → ℕ
     number n = class_number (class_at (4 * n))
+
+-- the rows of the table, and what stands at each entry of each
+unfoldable pub class_rows : List (List ℕ)
+class_rows = tabulate class_row 0 32
+
+pub class_rows_lem : (row i : ℕ) → row < 32 → i < 32 → get_or (get_or class_rows row []) i 0 ≡ class_number (class_at (4 * (32 * row + i)))
+unfolding class_rows
+class_rows_lem row i above left =
+    ap (λ (numbers : List ℕ). get_or numbers i 0) (get_d_tabulate class_row 0 32 row [] above ∙ ap class_row (zero-add row))
+    ∙ class_row_lem row refl i left
 
 -- a byte belongs to 8 interrupts at most
 pub few_numbers : (r : BitRegister) → bit_numbers_per_byte r ≤ 8

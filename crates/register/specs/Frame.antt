@@ -1,9 +1,7 @@
 -- An access to a frame: its widths and the refusals, by document 01, "The part that is ported" (limits) and "Refusal numbers".
-use Rattle.std.specs.Prelude.{Bool, true, false, cond, ◌&&◌, ℕ, ◌+◌, ◌%◌, eqb, leb}
+use Rattle.std.specs.Prelude.{Bool, true, false, cond, ◌&&◌, ℕ, ◌+◌, ◌%◌, eqb, leb, Option, Some, None}
 use Rattle.register.specs.declared.frame.AccessWidth.{AccessWidth}
 use Rattle.register.specs.declared.frame.AccessWidth.TheVariants.{Byte, Word, Dword, Qword}
-use Rattle.register.specs.declared.frame.DecodedWidth.{DecodedWidth}
-use Rattle.register.specs.declared.frame.DecodedWidth.TheVariants.{Valid, Reserved}
 use Rattle.register.specs.declared.frame.Refusal.{Refusal}
 use Rattle.register.specs.declared.frame.Refusal.TheVariants.{Access, Width, Vcpu, Limits, ShortState, BrokenState, FullStack, Input, Unlawful, NoRoom, Window}
 
@@ -15,12 +13,12 @@ bytes Dword = 4
 bytes Qword = 8
 
 -- ".. a call can be given no other"
-unfoldable pub decoded_width : ℕ → DecodedWidth
+unfoldable pub decoded_width : ℕ → Option AccessWidth
 decoded_width n =
-    cond (eqb n 1) (Valid Byte)
-    (cond (eqb n 2) (Valid Word)
-    (cond (eqb n 4) (Valid Dword)
-    (cond (eqb n 8) (Valid Qword) Reserved)))
+    cond (eqb n 1) (Some Byte)
+    (cond (eqb n 2) (Some Word)
+    (cond (eqb n 4) (Some Dword)
+    (cond (eqb n 8) (Some Qword) None)))
 
 abbrev pub is_dword : AccessWidth → Bool
 is_dword Byte = false

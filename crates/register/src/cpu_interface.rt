@@ -25,12 +25,6 @@ pub enum CpuInterfaceRegister {
     Other,
 }
 
-#[derive(Clone, Copy)]
-pub enum CpuInterfaceAccess {
-    Refused(Refusal),
-    At(CpuInterfaceRegister),
-}
-
 impl CpuInterfaceRegister {
     #[tactic(auto, unfolding(crate::specs::CpuInterface::register_at, crate::specs::CpuInterface::register_in, crate::specs::CpuInterface::registers))]
     fn at(offset: u64) -> Self
@@ -58,15 +52,18 @@ impl CpuInterfaceRegister {
 
 // Every access is 4 bytes, unnamed places too.
 #[tactic(auto, unfolding(crate::specs::CpuInterface::locate_cpu_interface))]
-pub fn locate_cpu_interface(offset: u64, width: AccessWidth) -> CpuInterfaceAccess
+pub fn locate_cpu_interface(
+    offset: u64,
+    width: AccessWidth,
+) -> Result<CpuInterfaceRegister, Refusal>
     ensures { result ≡ locate_cpu_interface offset width }
 {
     if !validate_frame_access(CPU_INTERFACE_SIZE, offset, width) {
-        return CpuInterfaceAccess::Refused(Refusal::Access);
+        return Err(Refusal::Access);
     }
     if width.is_dword() {
-        CpuInterfaceAccess::At(CpuInterfaceRegister::at(offset))
+        Ok(CpuInterfaceRegister::at(offset))
     } else {
-        CpuInterfaceAccess::Refused(Refusal::Width)
+        Err(Refusal::Width)
     }
 }

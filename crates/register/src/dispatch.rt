@@ -6,7 +6,7 @@ use crate::ranges::Class;
 
 // The class number of each 32-bit place, 16 where no range is. A row has the 32 places of 0x80 bytes, as many as most bit registers have;
 // `row` has it proved at each entry.
-const CLASS_NUMBERS: [[u8; 32]; 32] = [
+static CLASS_NUMBERS: [[u8; 32]; 32] = [
     // 0x000 GICD_CTLR, GICD_TYPER, GICD_IIDR
     [
         0, 1, 2, 16, 16, 16, 16, 16, 16, 16, 16, 16, 16, 16, 16, 16, 16, 16, 16, 16, 16, 16, 16,
@@ -67,55 +67,12 @@ const CLASS_NUMBERS: [[u8; 32]; 32] = [
     [16; 32],
 ];
 
-// The numbers of a row, taken at a constant place: so the table need not stand on the stack.
-fn row(number: usize) -> [u8; 32]
-    requires { number < 32 }
-    ensures { (i : ℕ) → i < 32 → get_or result i 0 ≡ class_number (class_at (4 * (32 * number + i))) }
-{
-    let rows = CLASS_NUMBERS;
-    match number {
-        0 => rows[0],
-        1 => rows[1],
-        2 => rows[2],
-        3 => rows[3],
-        4 => rows[4],
-        5 => rows[5],
-        6 => rows[6],
-        7 => rows[7],
-        8 => rows[8],
-        9 => rows[9],
-        10 => rows[10],
-        11 => rows[11],
-        12 => rows[12],
-        13 => rows[13],
-        14 => rows[14],
-        15 => rows[15],
-        16 => rows[16],
-        17 => rows[17],
-        18 => rows[18],
-        19 => rows[19],
-        20 => rows[20],
-        21 => rows[21],
-        22 => rows[22],
-        23 => rows[23],
-        24 => rows[24],
-        25 => rows[25],
-        26 => rows[26],
-        27 => rows[27],
-        28 => rows[28],
-        29 => rows[29],
-        30 => rows[30],
-        _ => rows[31],
-    }
-}
-
 // The number at a 32-bit place.
 fn class_number(place: usize) -> u8
     requires { place < 1024 }
     ensures { result ≡ class_number (class_at (4 * place)) }
 {
-    let numbers = row(place / 32);
-    numbers[place % 32]
+    CLASS_NUMBERS[place / 32][place % 32]
 }
 
 // SGIR, on which guests ring, is told without the table.

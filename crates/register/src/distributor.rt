@@ -20,6 +20,7 @@ pub struct Place {
     pub private: bool,
 }
 
+// No Result: which refusal the second case is, is told only where the vCPU is looked up.
 #[derive(Clone, Copy)]
 pub enum DistributorAccess {
     Refused(Refusal),
@@ -46,14 +47,8 @@ impl BitRegister {
         ensures { result ≡ bit_numbers_per_byte self }
     {
         match self {
-            BitRegister::Igroupr => 8,
-            BitRegister::Isenabler => 8,
-            BitRegister::Icenabler => 8,
-            BitRegister::Ispendr => 8,
-            BitRegister::Icpendr => 8,
-            BitRegister::Isactiver => 8,
-            BitRegister::Icactiver => 8,
             BitRegister::Icfgr => 4,
+            _ => 8,
         }
     }
 }
@@ -62,12 +57,7 @@ impl ByteRegister {
     fn is_priority(self) -> bool
         ensures { result ≡ is_priority self }
     {
-        match self {
-            ByteRegister::Ipriorityr => true,
-            ByteRegister::Itargetsr => false,
-            ByteRegister::Cpendsgir => false,
-            ByteRegister::Spendsgir => false,
-        }
+        matches!(self, ByteRegister::Ipriorityr)
     }
 }
 
@@ -165,10 +155,7 @@ fn locate_in_frame(class: Class, offset: u64, width: AccessWidth) -> Distributor
     ensures { result ≡ locate_in_frame offset width }
 {
     match class {
-        Class::Ctlr => single(class, offset, width),
-        Class::Typer => single(class, offset, width),
-        Class::Iidr => single(class, offset, width),
-        Class::Sgir => single(class, offset, width),
+        Class::Ctlr | Class::Typer | Class::Iidr | Class::Sgir => single(class, offset, width),
         Class::Bits(register) => bit_word(bit_place(register, offset), offset, width),
         Class::Bytes(register) => byte_array(byte_place(register, offset), width),
         Class::Other => DistributorAccess::At(Place::plain(Class::Other)),

@@ -1,97 +1,76 @@
 // What every frame has in common: the widths of an access, the refusals, and the test that an access lies in its frame.
-ghost use Rattle.std.specs.Prelude.{◌≡◌};
+ghost use Rattle.std.specs.Prelude.{◌≡◌, ◌%◌, ◌^◌};
 ghost use Rattle.register.specs.Frame.{decoded_width, bytes, is_dword, is_qword, refusal_number, aligned, in_frame};
 
-// The four widths of an access: no other can be given.
+// The four widths of an access, in bytes: no other can be given.
 #[derive(Clone, Copy)]
 pub enum AccessWidth {
-    Byte,
-    Word,
-    Dword,
-    Qword,
+    Byte = 1,
+    Word = 2,
+    Dword = 4,
+    Qword = 8,
 }
 
-// What a number of bytes is: a width, or none.
-#[derive(Clone, Copy)]
-pub enum DecodedWidth {
-    Valid(AccessWidth),
-    Reserved,
-}
-
-// Why a call is refused, in the order of the refusals' numbers.
+// Why a call is refused, with the refusals' numbers.
 #[derive(Clone, Copy)]
 pub enum Refusal {
     // Unaligned, or the end overflows or passes the frame.
-    Access,
+    Access = 1,
     // The register does not take this width.
-    Width,
+    Width = 2,
     // There is no such vCPU.
-    Vcpu,
+    Vcpu = 3,
     // Setup: count or limit out of range.
-    Limits,
+    Limits = 4,
     // Setup: the lent state is too short.
-    ShortState,
+    ShortState = 5,
     // The lent state is no controller's.
-    BrokenState,
+    BrokenState = 6,
     // No room for an acknowledged interrupt.
-    FullStack,
+    FullStack = 7,
     // Device input: no number for a device.
-    Input,
+    Input = 8,
     // Saving: the state is not lawful. Loading: the bytes are no image of a lawful state.
-    Unlawful,
+    Unlawful = 9,
     // Saving: the buffer is too short.
-    NoRoom,
+    NoRoom = 10,
     // Message frame: the window is none of this controller's.
-    Window,
+    Window = 11,
 }
 
 impl AccessWidth {
+    // No TryFrom: no error is to be told of a number that is no width.
     #[tactic(auto, unfolding(crate::specs::Frame::decoded_width))]
-    pub fn new(bytes: u64) -> DecodedWidth
+    pub fn new(bytes: u64) -> Option<AccessWidth>
         ensures { result ≡ decoded_width bytes }
     {
         match bytes {
-            1 => DecodedWidth::Valid(AccessWidth::Byte),
-            2 => DecodedWidth::Valid(AccessWidth::Word),
-            4 => DecodedWidth::Valid(AccessWidth::Dword),
-            8 => DecodedWidth::Valid(AccessWidth::Qword),
-            _ => DecodedWidth::Reserved,
+            1 => Some(AccessWidth::Byte),
+            2 => Some(AccessWidth::Word),
+            4 => Some(AccessWidth::Dword),
+            8 => Some(AccessWidth::Qword),
+            _ => None,
         }
     }
 
     pub fn size(self) -> usize
         ensures { result ≡ bytes self }
     {
-        match self {
-            AccessWidth::Byte => 1,
-            AccessWidth::Word => 2,
-            AccessWidth::Dword => 4,
-            AccessWidth::Qword => 8,
-        }
+        self as usize
     }
 
     // A register that is no byte array takes 4 bytes only.
     pub fn is_dword(self) -> bool
         ensures { result ≡ is_dword self }
     {
-        match self {
-            AccessWidth::Byte => false,
-            AccessWidth::Word => false,
-            AccessWidth::Dword => true,
-            AccessWidth::Qword => false,
-        }
+        matches!(self, AccessWidth::Dword)
     }
 
     // No byte array takes 8 bytes.
     pub fn is_qword(self) -> bool
         ensures { result ≡ is_qword self }
     {
-        match self {
-            AccessWidth::Byte => false,
-            AccessWidth::Word => false,
-            AccessWidth::Dword => false,
-            AccessWidth::Qword => true,
-        }
+        matches!(self, AccessWidth::Qword)
     }
 
     // By cases, so that each division is by a constant.
@@ -111,19 +90,7 @@ impl Refusal {
     pub fn number(self) -> u8
         ensures { result ≡ refusal_number self }
     {
-        match self {
-            Refusal::Access => 1,
-            Refusal::Width => 2,
-            Refusal::Vcpu => 3,
-            Refusal::Limits => 4,
-            Refusal::ShortState => 5,
-            Refusal::BrokenState => 6,
-            Refusal::FullStack => 7,
-            Refusal::Input => 8,
-            Refusal::Unlawful => 9,
-            Refusal::NoRoom => 10,
-            Refusal::Window => 11,
-        }
+        self as u8
     }
 }
 
@@ -135,4 +102,11 @@ pub fn validate_frame_access(size: u64, offset: u64, width: AccessWidth) -> bool
         return false;
     }
     (width.size() as u64 <= size - offset) & width.aligned(offset)
+}
+
+// What a register takes of a value that is written: it has 32 bits at most.
+pub fn register_value(value: u64) -> u32
+    ensures { result ≡ value % 2 ^ 32 }
+{
+    (value % 0x1_0000_0000) as u32
 }

@@ -8,7 +8,7 @@ pub mod distributor;
 pub mod frame;
 pub mod ranges;
 
-pub use cpu_interface::{CpuInterfaceAccess, CpuInterfaceRegister, locate_cpu_interface};
+pub use cpu_interface::{CpuInterfaceRegister, locate_cpu_interface};
 pub use distributor::{DistributorAccess, Place, locate_distributor};
-pub use frame::{AccessWidth, DecodedWidth, Refusal, validate_frame_access};
+pub use frame::{AccessWidth, Refusal, register_value, validate_frame_access};
 pub use ranges::{BitRegister, ByteRegister, Class, RegisterRange};

@@ -1,6 +1,6 @@
 // The Distributor's registers and where each lies (IHI 0048, Table 4-1, "Distributor register map").
 ghost use Rattle.std.specs.Prelude.{◌≡◌};
-ghost use Rattle.register.specs.Ranges.{bit_number, byte_number, class_number, class_of, range_of};
+ghost use Rattle.register.specs.Ranges.{bit_number, byte_number, class_number, range_numbered, class_of, range_of};
 
 // Registers with one bit for each interrupt, or two.
 #[derive(Clone, Copy)]
@@ -45,7 +45,7 @@ pub struct RegisterRange {
 }
 
 // A row for each class, at its number.
-const RANGES: [RegisterRange; 16] = [
+static RANGES: [RegisterRange; 16] = [
     RegisterRange {
         first: 0x000,
         length: 4,
@@ -128,6 +128,7 @@ const RANGES: [RegisterRange; 16] = [
     },
 ];
 
+// The numbers are those of the dispatch table, which document 01 asks for.
 impl BitRegister {
     fn number(self) -> u8
         ensures { result ≡ bit_number self }
@@ -173,60 +174,33 @@ impl Class {
         }
     }
 
-    #[tactic(auto, using(crate::proofs::Map::numbered_past), unfolding(crate::specs::Ranges::class_of, crate::specs::Ranges::range_numbered, crate::specs::Ranges::ranges))]
+    #[tactic(auto, unfolding(crate::specs::Ranges::class_of))]
     pub fn of_number(number: u8) -> Self
         ensures { result ≡ class_of number }
     {
-        match number {
-            0 => Class::Ctlr,
-            1 => Class::Typer,
-            2 => Class::Iidr,
-            3 => Class::Bits(BitRegister::Igroupr),
-            4 => Class::Bits(BitRegister::Isenabler),
-            5 => Class::Bits(BitRegister::Icenabler),
-            6 => Class::Bits(BitRegister::Ispendr),
-            7 => Class::Bits(BitRegister::Icpendr),
-            8 => Class::Bits(BitRegister::Isactiver),
-            9 => Class::Bits(BitRegister::Icactiver),
-            10 => Class::Bytes(ByteRegister::Ipriorityr),
-            11 => Class::Bytes(ByteRegister::Itargetsr),
-            12 => Class::Bits(BitRegister::Icfgr),
-            13 => Class::Sgir,
-            14 => Class::Bytes(ByteRegister::Cpendsgir),
-            15 => Class::Bytes(ByteRegister::Spendsgir),
-            _ => Class::Other,
-        }
+        row(number).class
     }
 
     // Where the class lies; the other places are in no row.
-    #[tactic(auto, using(crate::proofs::Map::numbered_past), unfolding(crate::specs::Ranges::range_of, crate::specs::Ranges::range_numbered, crate::specs::Ranges::ranges))]
+    #[tactic(auto, unfolding(crate::specs::Ranges::range_of))]
     pub fn range(self) -> RegisterRange
         ensures { result ≡ range_of self }
     {
-        // At places that are constants the rows need not stand on the stack.
-        let rows = RANGES;
-        match self.number() {
-            0 => rows[0],
-            1 => rows[1],
-            2 => rows[2],
-            3 => rows[3],
-            4 => rows[4],
-            5 => rows[5],
-            6 => rows[6],
-            7 => rows[7],
-            8 => rows[8],
-            9 => rows[9],
-            10 => rows[10],
-            11 => rows[11],
-            12 => rows[12],
-            13 => rows[13],
-            14 => rows[14],
-            15 => rows[15],
-            _ => RegisterRange {
-                first: 0,
-                length: 0,
-                class: Class::Other,
-            },
-        }
+        row(self.number())
+    }
+}
+
+// Numbers from 16 up have no row, and no place is there.
+#[tactic(auto, using(crate::proofs::Map::numbered_past), unfolding(crate::specs::Ranges::range_numbered, crate::specs::Ranges::ranges))]
+fn row(number: u8) -> RegisterRange
+    ensures { result ≡ range_numbered number }
+{
+    match RANGES.get(number as usize) {
+        Some(row) => *row,
+        None => RegisterRange {
+            first: 0,
+            length: 0,
+            class: Class::Other,
+        },
     }
 }

@@ -7,8 +7,8 @@
 ghost use Rattle.std.specs.Prelude.{◌+◌, ◌*◌, ◌≤◌, ◌^◌};
 
 use register::{
-    AccessWidth, BitRegister, ByteRegister, Class, CpuInterfaceAccess, CpuInterfaceRegister,
-    DistributorAccess, Place, Refusal,
+    AccessWidth, BitRegister, ByteRegister, Class, CpuInterfaceRegister, DistributorAccess, Place,
+    Refusal,
 };
 use std::io;
 use std::io::Stdout;
@@ -19,98 +19,74 @@ enum Frame {
     CpuInterface,
 }
 
-fn show(out: Stdout, text: &[u8]) -> io::Result<()> {
-    out.write_all(text)
-}
-
-fn number(out: Stdout, n: u64) -> io::Result<()> {
-    print!(out; "{n}")
-}
-
 fn show_refusal(out: Stdout, refusal: Refusal) -> io::Result<()> {
-    show(out, b" ")?;
-    number(out, refusal.number() as u64)
+    print!(out; " {}", refusal.number())
 }
 
-fn show_bits(out: Stdout, register: BitRegister) -> io::Result<()> {
+fn bit_name(register: BitRegister) -> &'static str {
     match register {
-        BitRegister::Igroupr => show(out, b"igroupr"),
-        BitRegister::Isenabler => show(out, b"isenabler"),
-        BitRegister::Icenabler => show(out, b"icenabler"),
-        BitRegister::Ispendr => show(out, b"ispendr"),
-        BitRegister::Icpendr => show(out, b"icpendr"),
-        BitRegister::Isactiver => show(out, b"isactiver"),
-        BitRegister::Icactiver => show(out, b"icactiver"),
-        BitRegister::Icfgr => show(out, b"icfgr"),
+        BitRegister::Igroupr => "igroupr",
+        BitRegister::Isenabler => "isenabler",
+        BitRegister::Icenabler => "icenabler",
+        BitRegister::Ispendr => "ispendr",
+        BitRegister::Icpendr => "icpendr",
+        BitRegister::Isactiver => "isactiver",
+        BitRegister::Icactiver => "icactiver",
+        BitRegister::Icfgr => "icfgr",
     }
 }
 
-fn show_bytes(out: Stdout, register: ByteRegister) -> io::Result<()> {
+fn byte_name(register: ByteRegister) -> &'static str {
     match register {
-        ByteRegister::Ipriorityr => show(out, b"ipriorityr"),
-        ByteRegister::Itargetsr => show(out, b"itargetsr"),
-        ByteRegister::Cpendsgir => show(out, b"cpendsgir"),
-        ByteRegister::Spendsgir => show(out, b"spendsgir"),
+        ByteRegister::Ipriorityr => "ipriorityr",
+        ByteRegister::Itargetsr => "itargetsr",
+        ByteRegister::Cpendsgir => "cpendsgir",
+        ByteRegister::Spendsgir => "spendsgir",
     }
 }
 
 fn show_place(out: Stdout, place: Place) -> io::Result<()> {
-    let class = place.class;
-    let first = place.first.0 as u64;
-    show(out, b" ")?;
-    if place.private {
-        show(out, b"own:")?;
-    }
-    match class {
-        Class::Ctlr => show(out, b"ctlr"),
-        Class::Typer => show(out, b"typer"),
-        Class::Iidr => show(out, b"iidr"),
-        Class::Sgir => show(out, b"sgir"),
-        Class::Bits(register) => {
-            show_bits(out, register)?;
-            number(out, first)
-        }
-        Class::Bytes(register) => {
-            show_bytes(out, register)?;
-            number(out, first)
-        }
-        Class::Other => show(out, b"-"),
+    print!(out; " {}", if place.private { "own:" } else { "" })?;
+    let first = place.first.0;
+    match place.class {
+        Class::Ctlr => print!(out; "ctlr"),
+        Class::Typer => print!(out; "typer"),
+        Class::Iidr => print!(out; "iidr"),
+        Class::Sgir => print!(out; "sgir"),
+        Class::Bits(register) => print!(out; "{}{first}", bit_name(register)),
+        Class::Bytes(register) => print!(out; "{}{first}", byte_name(register)),
+        Class::Other => print!(out; "-"),
     }
 }
 
 fn show_distributor(out: Stdout, offset: u64, width: AccessWidth) -> io::Result<()> {
     match register::locate_distributor(offset, width) {
         DistributorAccess::Refused(refusal) => show_refusal(out, refusal),
-        DistributorAccess::PrivateWidth => show(out, b" own:2"),
+        DistributorAccess::PrivateWidth => print!(out; " own:2"),
         DistributorAccess::At(place) => show_place(out, place),
     }
 }
 
 // The aliases act as what they are aliases of, and APR as an unnamed place.
-fn show_register(out: Stdout, register: CpuInterfaceRegister) -> io::Result<()> {
+fn register_name(register: CpuInterfaceRegister) -> &'static str {
     match register {
-        CpuInterfaceRegister::Ctlr => show(out, b" ctlr"),
-        CpuInterfaceRegister::Pmr => show(out, b" pmr"),
-        CpuInterfaceRegister::Bpr => show(out, b" bpr"),
-        CpuInterfaceRegister::Iar => show(out, b" iar"),
-        CpuInterfaceRegister::Eoir => show(out, b" eoir"),
-        CpuInterfaceRegister::Rpr => show(out, b" rpr"),
-        CpuInterfaceRegister::Hppir => show(out, b" hppir"),
-        CpuInterfaceRegister::Abpr => show(out, b" bpr"),
-        CpuInterfaceRegister::Aiar => show(out, b" iar"),
-        CpuInterfaceRegister::Aeoir => show(out, b" eoir"),
-        CpuInterfaceRegister::Ahppir => show(out, b" hppir"),
-        CpuInterfaceRegister::Apr => show(out, b" -"),
-        CpuInterfaceRegister::Iidr => show(out, b" iidr"),
-        CpuInterfaceRegister::Dir => show(out, b" dir"),
-        CpuInterfaceRegister::Other => show(out, b" -"),
+        CpuInterfaceRegister::Ctlr => "ctlr",
+        CpuInterfaceRegister::Pmr => "pmr",
+        CpuInterfaceRegister::Bpr | CpuInterfaceRegister::Abpr => "bpr",
+        CpuInterfaceRegister::Iar | CpuInterfaceRegister::Aiar => "iar",
+        CpuInterfaceRegister::Eoir | CpuInterfaceRegister::Aeoir => "eoir",
+        CpuInterfaceRegister::Rpr => "rpr",
+        CpuInterfaceRegister::Hppir | CpuInterfaceRegister::Ahppir => "hppir",
+        CpuInterfaceRegister::Iidr => "iidr",
+        CpuInterfaceRegister::Dir => "dir",
+        CpuInterfaceRegister::Apr | CpuInterfaceRegister::Other => "-",
     }
 }
 
 fn show_cpu_interface(out: Stdout, offset: u64, width: AccessWidth) -> io::Result<()> {
     match register::locate_cpu_interface(offset, width) {
-        CpuInterfaceAccess::Refused(refusal) => show_refusal(out, refusal),
-        CpuInterfaceAccess::At(register) => show_register(out, register),
+        Err(refusal) => show_refusal(out, refusal),
+        Ok(register) => print!(out; " {}", register_name(register)),
     }
 }
 
@@ -122,29 +98,32 @@ fn show_access(out: Stdout, frame: Frame, offset: u64, width: AccessWidth) -> io
 }
 
 fn start(out: Stdout, frame: Frame, offset: u64) -> io::Result<()> {
-    show_access(out, frame, offset, AccessWidth::Byte)?;
-    show_access(out, frame, offset, AccessWidth::Word)?;
-    show_access(out, frame, offset, AccessWidth::Dword)?;
-    show_access(out, frame, offset, AccessWidth::Qword)
+    for width in [
+        AccessWidth::Byte,
+        AccessWidth::Word,
+        AccessWidth::Dword,
+        AccessWidth::Qword,
+    ] {
+        show_access(out, frame, offset, width)?;
+    }
+    Ok(())
 }
 
-fn letter(out: Stdout, frame: Frame) -> io::Result<()> {
+fn letter(frame: Frame) -> char {
     match frame {
-        Frame::Distributor => show(out, b"d "),
-        Frame::CpuInterface => show(out, b"c "),
+        Frame::Distributor => 'd',
+        Frame::CpuInterface => 'c',
     }
 }
 
 fn place(out: Stdout, frame: Frame, offset: u64) -> io::Result<()>
     requires { offset + 4 ≤ 2 ^ 64 }
 {
-    letter(out, frame)?;
-    number(out, offset)?;
-    start(out, frame, offset)?;
-    start(out, frame, offset + 1)?;
-    start(out, frame, offset + 2)?;
-    start(out, frame, offset + 3)?;
-    show(out, b"\n")
+    print!(out; "{} {offset}", letter(frame))?;
+    for byte in 0..4 {
+        start(out, frame, offset + byte)?;
+    }
+    println!(out; "")
 }
 
 fn places(out: Stdout, frame: Frame, first: u64, count: u64) -> io::Result<()>

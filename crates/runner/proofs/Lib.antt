@@ -1,4 +1,3 @@
 -- Laws that belong to no one function.
-pub mod Printing
 pub mod Running
 pub mod Whole

@@ -11,7 +11,7 @@ use lib.Seq.{slice, sets-eq, length-take-le, take_all, take-append-le, take-appe
 use borrow.Author.Tests.{lt-ltb, lt-leb, ltb-true, ltb-false}
 use Rattle.script.specs.Line.{request_of}
 use Rattle.script.specs.Text.{PutText}
-use Rattle.runner.specs.Runner.{Printed, request_printed, line_answer, text_first, lines_printed, lines_after, printed, Prints}
+use Rattle.runner.specs.Runner.{Printed, asked_printed, line_answer, text_first, lines_printed, lines_after, printed, Prints}
 use Rattle.runner.specs.Feeding.{FeedState, kept_line, text_then, ran, rest_printed, Turns, unfed, fed_on}
 use Rattle.runner.proofs.Running.{ran_append}
 
@@ -32,7 +32,7 @@ request_kept line =
 
 answer_kept : (line s : List ℕ) → line_answer (take 81 line) s ≡ line_answer line s
 unfolding line_answer
-answer_kept line s = ap (λ r. request_printed r s) (request_kept line)
+answer_kept line s = ap (λ r. asked_printed r s) (request_kept line)
 
 kept_more : (line : List ℕ) (b : ℕ) → kept_line (take 81 line) b ≡ take 81 (line ++ b ∷ [])
 kept_more line b =

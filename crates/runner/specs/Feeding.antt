@@ -2,8 +2,7 @@
 -- promise is in Runner.antt, and `whole_input` in proofs/Whole.antt shows that what the two put, one after another, is what that says.
 use Rattle.std.specs.Prelude.{cond, List, [], ◌∷◌, ◌++◌, ◌⊎◌, ◌≡◌, ℕ, ◌+◌, ◌≤◌, ◌<◌, eqb, ltb, length, take}
 use Rattle.std.proofs.Math.Seq.{slice}
-use Rattle.answer.specs.declared.Answer.{Answer}
-use Rattle.answer.specs.Answer.{refusal_in, value_in, wake_in, retired_in}
+use Rattle.answer.specs.Answer.{Answer, refusal_in, value_in, wake_in, retired_in}
 use Rattle.script.specs.Text.{answer_text, PutText}
 use Rattle.runner.specs.declared.blocks.Progress.{Progress}
 use Rattle.runner.specs.Runner.{Printed, line_answer, Prints}

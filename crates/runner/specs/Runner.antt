@@ -1,12 +1,12 @@
 -- What the runner prints: document 01, "The runner's lines". It is a function of the bytes read and of the words that it starts from.
-use Rattle.std.specs.Prelude.{cond, List, [], ◌∷◌, ◌++◌, ◌≡◌, ℕ, eqb, ltb, length, replicate}
+use Rattle.std.specs.Prelude.{cond, List, [], ◌∷◌, ◌++◌, ◌≡◌, ℕ, eqb, ltb, length, replicate, Option, Some, None}
 use Rattle.answer.specs.Answer.{Outcome}
 use Rattle.cpu_interface_frame.specs.CpuInterfaceFrame.{read_v2_cpu_interface, write_v2_cpu_interface}
 use Rattle.distributor_frame.specs.DistributorFrame.{read_v2_distributor, write_v2_distributor}
 use Rattle.input.specs.Input.{device_level, device_pulse}
 use Rattle.controller.specs.Start.{setup}
 use Rattle.script.specs.declared.request.Request.{Request}
-use Rattle.script.specs.declared.request.Request.TheVariants.{Setup, ReadDistributor, WriteDistributor, ReadCpuInterface, WriteCpuInterface, SetLevel, Pulse, Unknown}
+use Rattle.script.specs.declared.request.Request.TheVariants.{Setup, ReadDistributor, WriteDistributor, ReadCpuInterface, WriteCpuInterface, SetLevel, Pulse}
 use Rattle.script.specs.Line.{request_of}
 use Rattle.script.specs.Text.{answer_text, unknown_text, PutText}
 
@@ -19,7 +19,7 @@ pub record Printed : Type 0 where
 abbrev pub outcome_printed : Outcome → Printed
 outcome_printed o = record { text = answer_text o.refusal o.value o.wake o.retired; state = o.state }
 
--- the call of each form; "A line of any other form prints `?`"
+-- the call of each form
 unfoldable pub request_printed : Request → List ℕ → Printed
 request_printed (Setup n) s = outcome_printed (setup n.count n.limit s)
 request_printed (ReadDistributor d) s = outcome_printed (read_v2_distributor d.vcpu.0 d.offset d.width s)
@@ -28,10 +28,14 @@ request_printed (ReadCpuInterface c) s = outcome_printed (read_v2_cpu_interface 
 request_printed (WriteCpuInterface c) s = outcome_printed (write_v2_cpu_interface c.vcpu.0 c.offset c.width c.value s)
 request_printed (SetLevel l) s = outcome_printed (device_level l.vcpu.0 l.number l.asserted s)
 request_printed (Pulse p) s = outcome_printed (device_pulse p.vcpu.0 p.number s)
-request_printed Unknown s = record { text = unknown_text; state = s }
+
+-- "A line of any other form prints `?`"
+abbrev pub asked_printed : Option Request → List ℕ → Printed
+asked_printed (Some request) s = request_printed request s
+asked_printed None s = record { text = unknown_text; state = s }
 
 unfoldable pub line_answer : List ℕ → List ℕ → Printed
-line_answer line s = request_printed (request_of line) s
+line_answer line s = asked_printed (request_of line) s
 
 -- each line's answer, in the words that the lines before it left
 abbrev pub text_first : List ℕ → Printed → Printed

@@ -1,9 +1,10 @@
 // Input, a block at a time.
-ghost use Rattle.std.specs.Prelude.{[], ◌∷◌, ◌≤◌, length, take};
+ghost use Rattle.std.specs.Prelude.{[], ◌∷◌, ◌≡◌, ◌≤◌, length, take};
 ghost use Rattle.runner.specs.Runner.{Prints};
 ghost use Rattle.runner.specs.Feeding.{rest_printed, Begun, RoomToAnswer, Ran, Fed};
 
 use crate::lines::answer_line;
+use script::Writer;
 
 // The bytes of a line that are kept: one more than any form has.
 pub const KEPT: usize = 81;
@@ -18,35 +19,27 @@ pub struct Progress {
     pub length: usize,
 }
 
-#[derive(Clone, Copy)]
-pub struct Place {
-    pub at: usize,
-    pub length: usize,
-}
-
+// Answers how many bytes of a line are kept then.
 fn step(
     words: &mut [u32],
     line: &mut [u8],
     begun: usize,
     byte: u8,
-    out: &mut [u8],
-    at: usize,
-) -> Place
-    requires { RoomToAnswer begun line.old at out.old }
-    ensures { Ran (byte ∷ []) begun line.old words.old at out.old result.length line.new words.new result.at out.new }
+    writer: &mut Writer<'_>,
+) -> usize
+    requires { RoomToAnswer begun line.old writer.old.at writer.old.out.now }
+    ensures ran { Ran (byte ∷ []) begun line.old words.old writer.old.at writer.old.out.now result line.new words.new writer.new.at writer.new.out.now }
+    ensures same_reference { writer.new.out.ghost_name ≡ writer.old.out.ghost_name }
 {
     if byte == b'\n' {
-        let end = answer_line(words, &line[..begun], out, at);
-        return Place { at: end, length: 0 };
+        answer_line(words, &line[..begun], writer);
+        return 0;
     }
     if begun < KEPT {
         line[begun] = byte;
-        return Place {
-            at,
-            length: begun + 1,
-        };
+        return begun + 1;
     }
-    Place { at, length: begun }
+    begun
 }
 
 // Goes on while input is left and `out` has room for one more answer.
@@ -61,25 +54,21 @@ pub fn feed(
     requires { (Begun begun line.old) × (from ≤ length input.now) }
     ensures { Fed input.now from begun line.old words.old out.old result line.new words.new out.new }
 {
-    let mut at = 0;
+    let mut writer = Writer { out, at: 0 };
     let mut kept = begun;
-    let mut i = from;
-    while i < input.len() {
-        if out.len() - at < ANSWER {
+    for i in from..input.len() {
+        if writer.out.len() - writer.at < ANSWER {
             return Progress {
                 consumed: i,
-                produced: at,
+                produced: writer.at,
                 length: kept,
             };
         }
-        let place = step(words, line, kept, input[i], out, at);
-        at = place.at;
-        kept = place.length;
-        i += 1;
+        kept = step(words, line, kept, input[i], &mut writer);
     }
     Progress {
-        consumed: i,
-        produced: at,
+        consumed: input.len(),
+        produced: writer.at,
         length: kept,
     }
 }
@@ -89,9 +78,12 @@ pub fn feed_rest(words: &mut [u32], line: &[u8], begun: usize, out: &mut [u8]) -
     requires { RoomToAnswer begun line.now 0 out.old }
     ensures { Prints (rest_printed (take begun line.now) words.old) 0 words.new out.old out.new result }
 {
+    // Named, so that no goal's name hangs on the number.
     let is_begun = 0 < begun;
     if is_begun {
-        return answer_line(words, &line[..begun], out, 0);
+        let mut writer = Writer { out, at: 0 };
+        answer_line(words, &line[..begun], &mut writer);
+        return writer.at;
     }
     0
 }

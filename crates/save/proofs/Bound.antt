@@ -1,4 +1,5 @@
 -- How long the image of a lawful state can be: at most `image_bytes`. Assumes nothing.
+use Rattle.std.specs.Prelude.{Option, Some, None}
 use mathlib.Core.Bool.{Bool, true, false, not}
 use mathlib.Core.List.{List, [], ◌∷◌}
 use mathlib.Core.Path.{◌≡◌, refl, ap, ◌∙◌}
@@ -9,11 +10,7 @@ use borrow.Author.Tests.{lt-ltb, le-ltb}
 use Rattle.groups.specs.Groups.{spelled}
 use Rattle.groups.proofs.Numbers.{groups_one, groups_few, spelled_append}
 use Rattle.interrupt.specs.Types.{is_level}
-use Rattle.interrupt.specs.declared.record.CpuTargetMask.{CpuTargetMask}
-use Rattle.interrupt.specs.declared.record.CpuTargetMask.TheVariants.{Unset, Mask}
 use Rattle.interrupt.specs.declared.record.InterruptRecord.{InterruptRecord}
-use Rattle.interrupt.specs.declared.record.Owner.{Owner}
-use Rattle.interrupt.specs.declared.record.Owner.TheVariants.{Nobody, Vcpu}
 use Rattle.word.specs.Word.{mask_byte, InRange}
 use Rattle.word.proofs.RecordWord.{bit_fits, decoded_in_range}
 use Rattle.state.specs.declared.layout.Shape.{Shape}
@@ -24,6 +21,7 @@ use Rattle.image.specs.Image.{each, flags_number, owner_number, mask_number, int
 use Rattle.image.proofs.ByParts.{each_plus}
 use Rattle.save.specs.Save.{image_bytes}
 use Rattle.save.proofs.Pieces.{bytes_append}
+use Rattle.interrupt.specs.declared.types.GicVcpuId.{GicVcpuId}
 
 -- how many bytes some numbers are
 abbrev pub bytes_of : List ℕ → ℕ
@@ -68,9 +66,9 @@ record_most r ns b h rest =
     let all = one_more (flags_number r) (r.priority.0 ∷ ns) (2 + b) (flags_small r) (two_more r.priority.0 ns b (omega arith) rest) in
     omega arith
 
-mask_small : (m : CpuTargetMask) → mask_byte m < 2 ^ 8 → mask_number m < 16384
-mask_small Unset h = omega arith
-mask_small (Mask byte) h = omega arith
+mask_small : (m : Option ℕ) → mask_byte m < 2 ^ 8 → mask_number m < 16384
+mask_small None h = omega arith
+mask_small (Some byte) h = omega arith
 
 module _ (shape : Shape) (s : List ℕ) (h : Lawful shape s) where
   interface_most : (v : ℕ) → bytes_of (interface_numbers shape s v) ≤ 5
@@ -98,9 +96,9 @@ module _ (shape : Shape) (s : List ℕ) (h : Lawful shape s) where
   owner_small : (v n : ℕ) → RecordThere shape v n → owner_number (record_at shape v n s).owner < 128
   owner_small v n there = go (record_at shape v n s).inflight refl
     where
-      charged : (o : Owner) → Charged shape o → owner_number o < 128
-      charged Nobody c = absurd c
-      charged (Vcpu u) c = let few = h.in_range.state.limits.few_vcpus in omega arith
+      charged : (o : Option GicVcpuId) → Charged shape o → owner_number o < 128
+      charged None c = absurd c
+      charged (Some u) c = let few = h.in_range.state.limits.few_vcpus in omega arith
 
       go : (b : Bool) → (record_at shape v n s).inflight ≡ b → owner_number (record_at shape v n s).owner < 128
       go true e = charged (record_at shape v n s).owner ((h.orderly.records v n there).charged e)

@@ -2,16 +2,17 @@
 -- piece. Assumes nothing.
 use mathlib.Core.Bool.{Bool, true}
 use mathlib.Core.List.{List, [], ◌∷◌, ◌++◌}
-use mathlib.Core.Path.{◌≡◌, ap, ◌∙◌}
+use mathlib.Core.Path.{◌≡◌, refl, ap, ◌∙◌}
 use Prim.Native.Nat.{ℕ, ◌+◌, ◌-◌, ◌^◌, ◌≤◌, ◌<◌}
 use native.Mathlib.Omega.{arith}
 use lib.ListN.{length, length-append}
-use Rattle.groups.specs.Groups.{groups, spelled, Wrote}
+use Rattle.groups.specs.declared.Writer.{Writer}
+use Rattle.groups.specs.Groups.{groups, spelled, WroteBy}
 use Rattle.groups.proofs.Numbers.{groups_some, spelled_one, spelled_append}
-use Rattle.groups.proofs.Writing.{wrote_none, wrote_then, wrote_length}
+use Rattle.groups.proofs.Writing.{wrote_none, wrote_length, puts_then}
 use Rattle.image.specs.Image.{each}
 use Rattle.image.proofs.ByParts.{each_none, each_more, each_plus}
-use Rattle.save.specs.Fitting.{Fitting}
+use Rattle.save.specs.Fitting.{Fitting, FitsIn}
 
 pub bytes_append : (xs ys : List ℕ) → length (spelled (xs ++ ys)) ≡ length (spelled xs) + length (spelled ys)
 bytes_append xs ys = rw spelled_append (length-append (spelled xs) (spelled ys))
@@ -25,47 +26,44 @@ module _ {w : Bool} {at : ℕ} {s : List ℕ} where
       let near = fit.near in
       (omega arith, small, λ e. let room = fit.room e in omega arith)
 
-  pub number_wrote : {s' : List ℕ} {end : ℕ} (n : ℕ) → Wrote w (groups n) at s s' end → Wrote w (spelled (n ∷ [])) at s s' end
-  number_wrote n wrote = rw spelled_one wrote
-
-  -- and what no number is
-  pub none_wrote : {xs : List ℕ} → Fitting w xs at s → Wrote w (spelled []) at s s at
-  unfolding spelled
-  none_wrote fit = wrote_none w s at (λ e. let room = fit.room e in omega arith)
-
   pub fits_first : (xs ys : List ℕ) → Fitting w (xs ++ ys) at s → Fitting w xs at s
   fits_first xs ys fit =
       let sum = bytes_append xs ys in
       let near = fit.near in
       record { near = omega arith; room = λ e. let room = fit.room e in omega arith }
 
-  pub fits_next : {s' : List ℕ} {end : ℕ} (xs ys : List ℕ) → Fitting w (xs ++ ys) at s → Wrote w (spelled xs) at s s' end → Fitting w ys end s'
-  fits_next xs ys fit wrote =
+module _ {b : Bool} {w w' : Writer} where
+  pub number_puts : (n : ℕ) → WroteBy b (groups n) w w' → WroteBy b (spelled (n ∷ [])) w w'
+  number_puts n put = rw spelled_one put
+
+  pub fits_next : (xs ys : List ℕ) → FitsIn b (xs ++ ys) w → WroteBy b (spelled xs) w w' → FitsIn b ys w'
+  fits_next xs ys fit put =
       let sum = bytes_append xs ys in
       let near = fit.near in
-      let past = wrote.past in
-      let same = wrote_length wrote in
+      let past = put.wrote.past in
+      let same = wrote_length put.wrote in
       record { near = omega arith; room = λ e. let room = fit.room e in omega arith }
 
-  pub wrote_more : {s' s'' : List ℕ} {end end' : ℕ} (xs ys : List ℕ) → Wrote w (spelled xs) at s s' end → Wrote w (spelled ys) end s' s'' end'
-      → Wrote w (spelled (xs ++ ys)) at s s'' end'
-  wrote_more xs ys first second = rw spelled_append (wrote_then first second)
+  pub puts_more : {w'' : Writer} (xs ys : List ℕ) → WroteBy b (spelled xs) w w' → WroteBy b (spelled ys) w' w'' → WroteBy b (spelled (xs ++ ys)) w w''
+  puts_more xs ys first second = rw spelled_append (puts_then first second)
+
+-- no number is no byte
+none_puts : {b : Bool} (w : Writer) {xs : List ℕ} → FitsIn b xs w → WroteBy b (spelled []) w w
+unfolding spelled
+none_puts {b} w fit = record { wrote = wrote_none b w.out.now w.at (λ e. let room = fit.room e in omega arith); same_reference = refl }
 
 -- a loop over pieces
-module _ {w : Bool} {start : ℕ} {s₀ : List ℕ} (f : ℕ → List ℕ) where
-  pub loop_starts : (xs : List ℕ) → Fitting w xs start s₀ → Wrote w (spelled (each f 0)) start s₀ s₀ start
-  loop_starts xs fit = rw each_none (none_wrote fit)
+module _ {b : Bool} (w : Writer) (f : ℕ → List ℕ) where
+  pub loop_starts : (xs : List ℕ) → FitsIn b xs w → WroteBy b (spelled (each f 0)) w w
+  loop_starts xs fit = rw each_none (none_puts w fit)
 
-  module _ {s : List ℕ} {at : ℕ} (k : ℕ) (wrote : Wrote w (spelled (each f k)) start s₀ s at) where
-    pub loop_fits : (n : ℕ) → k < n → Fitting w (each f n) start s₀ → Fitting w (f k) at s
+  module _ {w' : Writer} (k : ℕ) (put : WroteBy b (spelled (each f k)) w w') where
+    pub loop_fits : (n : ℕ) → k < n → FitsIn b (each f n) w → FitsIn b (f k) w'
     loop_fits n below fit =
         let e : n ≡ k + 1 + (n - (k + 1)) = omega arith in
         let rest = each (λ i. f (k + 1 + i)) (n - (k + 1)) in
         let parted : each f n ≡ (each f k ++ f k) ++ rest = ap (each f) e ∙ rw (each_plus f (k + 1) (n - (k + 1)), each_more f k) in
-        fits_next (each f k) (f k) (fits_first (each f k ++ f k) rest (rw parted at fit)) wrote
+        fits_next (each f k) (f k) (fits_first (each f k ++ f k) rest (rw parted at fit)) put
 
-    pub loop_goes : {s' : List ℕ} {end : ℕ} → Wrote w (spelled (f k)) at s s' end → Wrote w (spelled (each f (k + 1))) start s₀ s' end
-    loop_goes next = rw each_more (wrote_more (each f k) (f k) wrote next)
-
-    pub loop_ends : (n : ℕ) → k ≡ n → Wrote w (spelled (each f n)) start s₀ s at
-    loop_ends n e = rw e at wrote
+    pub loop_goes : {w'' : Writer} → WroteBy b (spelled (f k)) w' w'' → WroteBy b (spelled (each f (k + 1))) w w''
+    loop_goes next = rw each_more (puts_more (each f k) (f k) put next)

@@ -1,4 +1,5 @@
 -- What saving comes to, case by case. Each law takes what the steps of the call have shown, one premise for each step. Assumes nothing.
+use Rattle.std.specs.Prelude.{Option, Some}
 use mathlib.Core.Bool.{Bool, true, false, not}
 use mathlib.Core.List.{List, ◌++◌}
 use mathlib.Core.Path.{◌≡◌, refl, sym, ◌∙◌}
@@ -7,16 +8,13 @@ use native.Mathlib.Omega.{arith}
 use lib.Dec.{leb}
 use lib.ListN.{length, drop}
 use lib.Seq.{sets-eq}
-use borrow.Author.Tests.{leb-true, not-true, not-false}
+use borrow.Author.Tests.{leb-true, not-false}
 use Rattle.groups.specs.Groups.{Wrote}
-use Rattle.register.specs.declared.frame.Refusal.TheVariants.{BrokenState, Unlawful, NoRoom}
 use Rattle.state.specs.declared.layout.Shape.{Shape}
-use Rattle.state.specs.declared.lent.Lent.{Lent}
-use Rattle.state.specs.declared.lent.Lent.TheVariants as lent
 use Rattle.state.specs.Lent.{validated}
 use Rattle.state.proofs.Validated.{validated_held}
 use Rattle.service.specs.Service.{Sound}
-use Rattle.answer.specs.Answer.{Outcome, refused, gave}
+use Rattle.answer.specs.Answer.{Outcome, gave}
 use Rattle.lawful.specs.Lawful.{Lawful}
 use Rattle.lawful_test.specs.LawfulTest.{is_lawful}
 use Rattle.lawful_test.proofs.Passing.{passes_lawful}
@@ -39,26 +37,14 @@ lawful_fits {shape} {s} w out h room =
 pub measured : {text s s' : List ℕ} {end : ℕ} → Wrote false text 0 s s' end → (leb end (length s') ≡ leb (length text) (length s)) × (s' ≡ s)
 measured {text} {s} {s'} {end} wrote = let same : end ≡ length text = wrote.past ∙ omega arith in (rw (wrote.bytes, same), wrote.bytes)
 
-module _ (s buffer : List ℕ) (found : Lent) (e : found ≡ validated s) where
-  pub saved_broken : found ≡ lent.Broken → ◌≡◌ {A = Saved} (record { outcome = refused BrokenState s; buffer = buffer }) (save s buffer)
-  unfolding save
-  saved_broken h = simp (← e, h)
-
-  module _ (shape : Shape) (h : found ≡ lent.Sound shape) (q : Bool) (l : q ≡ is_lawful shape s) where
-    pub saved_unlawful : not q ≡ true → ◌≡◌ {A = Saved} (record { outcome = refused Unlawful s; buffer = buffer }) (save s buffer)
-    unfolding save
-    saved_unlawful p = simp (← e, h, ← l, not-true q p)
-
+module _ (s buffer : List ℕ) (found : Option Shape) (e : found ≡ validated s) where
+  module _ (shape : Shape) (h : found ≡ Some shape) (q : Bool) (l : q ≡ is_lawful shape s) where
     module _ (p : not q ≡ false) where
       pub saved_lawful : Lawful shape s
       saved_lawful = passes_lawful shape s (validated_held s shape (sym e ∙ h)) (sym l ∙ not-false q p)
 
       -- after the test of the room, which changes nothing
       module _ (now : List ℕ) (same : now ≡ buffer) (fits : Bool) (room : fits ≡ leb (length (image shape s)) (length buffer)) where
-        pub saved_refused : not fits ≡ true → ◌≡◌ {A = Saved} (record { outcome = refused NoRoom s; buffer = now }) (save s buffer)
-        unfolding save
-        saved_refused f = simp (same, ← e, h, ← l, not-false q p, ← room, not-true fits f)
-
         module _ (f : not fits ≡ false) where
           pub saved_fits : Fitting true (numbers shape s) 0 now
           saved_fits = lawful_fits true now saved_lawful (λ _. rw same (leb-true _ _ (sym room ∙ not-false fits f)))

@@ -1,13 +1,10 @@
 -- Saving: document 02, request One: "Save a controller into a lent buffer"; "Saving answers the image's length and leaves the buffer past it";
 -- "Refusals: saving 6, then 9 not lawful, then 10 no room (buffer untouched)".
-use Rattle.std.specs.Prelude.{◌≡◌, cond, List, ◌++◌, ℕ, ◌+◌, ◌-◌, ◌*◌, leb, length, drop}
+use Rattle.std.specs.Prelude.{◌≡◌, cond, List, ◌++◌, ℕ, ◌+◌, ◌-◌, ◌*◌, leb, length, drop, Option, Some, None}
 use Rattle.register.specs.declared.frame.Refusal.TheVariants.{BrokenState, Unlawful, NoRoom}
 use Rattle.state.specs.declared.layout.Shape.{Shape}
-use Rattle.state.specs.declared.lent.Lent.{Lent}
-use Rattle.state.specs.declared.lent.Lent.TheVariants.{Sound, Broken}
 use Rattle.state.specs.Lent.{validated}
-use Rattle.answer.specs.declared.Answer.{Answer}
-use Rattle.answer.specs.Answer.{Outcome, outcome, refused, gave}
+use Rattle.answer.specs.Answer.{Answer, Outcome, outcome, refused, gave}
 use Rattle.lawful_test.specs.LawfulTest.{is_lawful}
 use Rattle.image.specs.Image.{image}
 
@@ -23,9 +20,9 @@ into_buffer bytes s buffer =
     (record { outcome = refused NoRoom s; buffer = buffer })
 
 -- that the test is just `Lawful` is `lawful_passes` and `passes_lawful` (crates/lawful_test)
-abbrev pub saved_from : Lent → List ℕ → List ℕ → Saved
-saved_from Broken s buffer = record { outcome = refused BrokenState s; buffer = buffer }
-saved_from (Sound shape) s buffer = cond (is_lawful shape s) (into_buffer (image shape s) s buffer) (record { outcome = refused Unlawful s; buffer = buffer })
+abbrev pub saved_from : Option Shape → List ℕ → List ℕ → Saved
+saved_from None s buffer = record { outcome = refused BrokenState s; buffer = buffer }
+saved_from (Some shape) s buffer = cond (is_lawful shape s) (into_buffer (image shape s) s buffer) (record { outcome = refused Unlawful s; buffer = buffer })
 
 unfoldable pub save : List ℕ → List ℕ → Saved
 save s buffer = saved_from (validated s) s buffer

@@ -11,9 +11,9 @@ use crate::walking::put_image;
 use answer::{Answer, gave};
 use lawful_test::is_lawful;
 use register::Refusal;
+use state::Shape;
 use state::layout::FIRST_SPI;
 use state::lent::validate_state;
-use state::{Lent, Shape};
 
 pub mod walking;
 
@@ -37,18 +37,17 @@ fn has_room(buffer: &mut [u8], words: &[u32], shape: Shape) -> bool
     length <= buffer.len()
 }
 
+#[tactic(auto, unfolding(crate::specs::Save::save))]
 pub fn save(words: &[u32], buffer: &mut [u8]) -> Answer
     ensures { SavePromise words.now buffer.old result words.now buffer.new }
 {
-    let Lent::Sound(shape) = validate_state(words) else {
-        return Answer::Refused(Refusal::BrokenState);
-    };
+    let shape = validate_state(words).ok_or(Refusal::BrokenState)?;
     let unlawful = !is_lawful(words, shape);
     if unlawful {
-        return Answer::Refused(Refusal::Unlawful);
+        return Err(Refusal::Unlawful);
     }
     if !has_room(buffer, words, shape) {
-        return Answer::Refused(Refusal::NoRoom);
+        return Err(Refusal::NoRoom);
     }
     let length = put_image(buffer, words, shape, true);
     gave(length as u32)

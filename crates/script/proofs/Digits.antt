@@ -10,10 +10,8 @@ use lib.Dec.{eqb, ltb}
 use lib.ListN.{length, get_or, drop, drop_of_length-le}
 use lib.Seq.{drop-cons}
 use borrow.Author.Tests.{lt-ltb, le-ltb, eq-eqb, ne_eqb, ltb-true, ltb-false}
-use Rattle.script.specs.declared.number.Number.{Number}
-use Rattle.script.specs.declared.number.Number.TheVariants.{Parsed, NoNumber}
-use Rattle.script.specs.declared.number.Digits.{Digits}
-use Rattle.script.specs.declared.number.Digits.TheVariants.{Value, NoDigit}
+use Rattle.std.specs.Prelude.{Option, Some, None}
+use Rattle.script.specs.declared.number.Field.{Field}
 use Rattle.script.specs.Line.{is_digit, digits_only, value_after, is_number}
 use Rattle.script.specs.Reading.{first_field, digit_after, parsed, ended_at, number_at}
 
@@ -32,19 +30,19 @@ grows v [] = omega arith
 grows v (b ∷ bs) = let h = grows (10 * v + (b - 48)) bs in omega arith
 
 -- the field f from the place i up, after digits that stand for v
-unfoldable pub read_field : ℕ → ℕ → List ℕ → Number
-read_field v i f = cond (digits_only f && ltb (value_after v f) (2 ^ 64)) (parsed (value_after v f) (i + length f)) NoNumber
+unfoldable pub read_field : ℕ → ℕ → List ℕ → Option Field
+read_field v i f = cond (digits_only f && ltb (value_after v f) (2 ^ 64)) (parsed (value_after v f) (i + length f)) None
 
-unfoldable pub reading : ℕ → ℕ → List ℕ → Number
+unfoldable pub reading : ℕ → ℕ → List ℕ → Option Field
 reading v i s = read_field v i (first_field s)
 
 -- and after one digit more
-abbrev pub read_on : Digits → ℕ → List ℕ → Number
-read_on (Value v) i s = reading v i s
-read_on NoDigit i s = NoNumber
+abbrev pub read_on : Option ℕ → ℕ → List ℕ → Option Field
+read_on (Some v) i s = reading v i s
+read_on None i s = None
 
 read_digit : (v i b : ℕ) (f : List ℕ) (d u : Bool) → is_digit b ≡ d → ltb (10 * v + (b - 48)) (2 ^ 64) ≡ u
-    → read_field v i (b ∷ f) ≡ cond (d && u) (read_field (10 * v + (b - 48)) (i + 1) f) NoNumber
+    → read_field v i (b ∷ f) ≡ cond (d && u) (read_field (10 * v + (b - 48)) (i + 1) f) None
 unfolding read_field digits_only value_after
 read_digit v i b f false u p q = simp p
 read_digit v i b f true true p q = let e : i + suc (length f) ≡ i + 1 + length f = omega arith in simp (p, e)
@@ -56,7 +54,7 @@ read_on_lem : (v i b : ℕ) (t : List ℕ) → eqb b 32 ≡ false → reading v 
 unfolding reading first_field digit_after
 read_on_lem v i b t p = rw p (read_digit v i b (first_field t) (is_digit b) (ltb (10 * v + (b - 48)) (2 ^ 64)) refl refl ∙ chosen (is_digit b && ltb (10 * v + (b - 48)) (2 ^ 64)))
   where
-    chosen : (x : Bool) → cond x (read_field (10 * v + (b - 48)) (i + 1) (first_field t)) NoNumber ≡ read_on (cond x (Value (10 * v + (b - 48))) NoDigit) (i + 1) t
+    chosen : (x : Bool) → cond x (read_field (10 * v + (b - 48)) (i + 1) (first_field t)) None ≡ read_on (cond x (Some (10 * v + (b - 48))) None) (i + 1) t
     chosen true = refl
     chosen false = refl
 
@@ -78,49 +76,49 @@ module _ (line : List ℕ) (v i : ℕ) where
   at_end h small = rw (drop_of_length-le line h) (read_none v i small)
 
 -- a digit more fits
-pub digit_fits : (v b w : ℕ) → digit_after v b ≡ Value w → w < 2 ^ 64
+pub digit_fits : (v b w : ℕ) → digit_after v b ≡ Some w → w < 2 ^ 64
 unfolding digit_after
 digit_fits v b w = go (is_digit b) (ltb (10 * v + (b - 48)) (2 ^ 64)) refl
   where
-    go : (d u : Bool) → ltb (10 * v + (b - 48)) (2 ^ 64) ≡ u → cond (d && u) (Value (10 * v + (b - 48))) NoDigit ≡ Value w → w < 2 ^ 64
+    go : (d u : Bool) → ltb (10 * v + (b - 48)) (2 ^ 64) ≡ u → cond (d && u) (Some (10 * v + (b - 48))) None ≡ Some w → w < 2 ^ 64
     go true true q e = let same : 10 * v + (b - 48) ≡ w = cc in let small = ltb-true (10 * v + (b - 48)) (2 ^ 64) q in omega arith
     go true false q e = let z : ◌≡◌ {A = ℕ} 0 1 = cc in omega arith
     go false u q e = let z : ◌≡◌ {A = ℕ} 0 1 = cc in omega arith
 
 -- a whole field is a number if it has a digit
-number_field : (at : ℕ) (f : List ℕ) → cond (is_number f) (parsed (value_after 0 f) (at + length f)) NoNumber ≡ cond (ltb 0 (length f)) (read_field 0 at f) NoNumber
+number_field : (at : ℕ) (f : List ℕ) → cond (is_number f) (parsed (value_after 0 f) (at + length f)) None ≡ cond (ltb 0 (length f)) (read_field 0 at f) None
 unfolding is_number read_field
 number_field at f = go (ltb 0 (length f))
   where
-    go : (b : Bool) → cond (b && digits_only f && ltb (value_after 0 f) (2 ^ 64)) (parsed (value_after 0 f) (at + length f)) NoNumber
-        ≡ cond b (cond (digits_only f && ltb (value_after 0 f) (2 ^ 64)) (parsed (value_after 0 f) (at + length f)) NoNumber) NoNumber
+    go : (b : Bool) → cond (b && digits_only f && ltb (value_after 0 f) (2 ^ 64)) (parsed (value_after 0 f) (at + length f)) None
+        ≡ cond b (cond (digits_only f && ltb (value_after 0 f) (2 ^ 64)) (parsed (value_after 0 f) (at + length f)) None) None
     go true = refl
     go false = refl
 
-next_of : Number → ℕ
-next_of (Parsed field) = field.next
-next_of NoNumber = 0
+next_of : Option Field → ℕ
+next_of (Some field) = field.next
+next_of None = 0
 
 -- where a field that is read ends
 field_end : (at : ℕ) (f : List ℕ) (v i : ℕ) → read_field 0 at f ≡ parsed v i → at + length f ≡ i
 unfolding read_field next_of
 field_end at f v i = go (digits_only f && ltb (value_after 0 f) (2 ^ 64))
   where
-    go : (b : Bool) → cond b (parsed (value_after 0 f) (at + length f)) NoNumber ≡ parsed v i → at + length f ≡ i
+    go : (b : Bool) → cond b (parsed (value_after 0 f) (at + length f)) None ≡ parsed v i → at + length f ≡ i
     go true e = ap next_of e
     go false e = let z : ◌≡◌ {A = ℕ} 0 1 = cc in omega arith
 
 module _ (line : List ℕ) (at : ℕ) where
-  pub number_none : reading 0 at (drop at line) ≡ NoNumber → NoNumber ≡ number_at line at
+  pub number_none : reading 0 at (drop at line) ≡ None → None ≡ number_at line at
   unfolding reading number_at
-  number_none e = let f = first_field (drop at line) in sym (number_field at f ∙ rw e (cond_same (ltb 0 (length f)) NoNumber))
+  number_none e = let f = first_field (drop at line) in sym (number_field at f ∙ rw e (cond_same (ltb 0 (length f)) None))
 
   pub number_ended : (v i : ℕ) → reading 0 at (drop at line) ≡ parsed v i → ended_at at i v ≡ number_at line at
   unfolding reading number_at
   number_ended v i e =
       let f = first_field (drop at line) in
       let ends = field_end at f v i e in
-      sym (number_field at f ∙ rw e (ap (λ (b : Bool). cond b (parsed v i) NoNumber) (same f ends)))
+      sym (number_field at f ∙ rw e (ap (λ (b : Bool). cond b (parsed v i) None) (same f ends)))
     where
       same : (f : List ℕ) → at + length f ≡ i → ltb 0 (length f) ≡ ltb at i
       same f ends = go (ltb at i) refl

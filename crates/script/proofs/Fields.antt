@@ -2,7 +2,6 @@
 use mathlib.Core.Path.{◌≡◌, refl, ap, ◌∙◌, subst}
 use mathlib.Core.Bool.{Bool, true, false, cond}
 use mathlib.Core.List.{List, [], ◌∷◌}
-use mathlib.Core.Option.{Option, none, some}
 use Prim.Native.Nat.{ℕ, suc, ◌+◌, ◌-◌, ◌≤◌, ◌<◌}
 use native.Mathlib.Numerals.{add-one}
 use native.Mathlib.Omega.{arith}
@@ -10,11 +9,10 @@ use lib.Dec.{eqb}
 use lib.ListN.{length, get_or, drop, length-drop}
 use lib.Seq.{drop-cons, drop-drop}
 use borrow.Author.Tests.{eq-eqb, ne_eqb, eqb-true}
+use Rattle.std.specs.Prelude.{Option, Some, None}
 use Rattle.script.specs.declared.number.Field.{Field}
-use Rattle.script.specs.declared.number.Number.TheVariants.{Parsed, NoNumber}
 use Rattle.script.specs.declared.request.Numbers.{Numbers}
 use Rattle.script.specs.declared.request.Numbers.TheVariants.{Zero, Other}
-use Rattle.script.specs.declared.request.Request.TheVariants.{Unknown}
 use Rattle.script.specs.Request.{with_number, request_for}
 use Rattle.script.specs.Line.{is_number, value_after, field_number, longer, fields, with_field, numbers_after, request_in}
 use Rattle.script.specs.Reading.{first_field, fields_after, parsed, number_at}
@@ -45,8 +43,8 @@ spoilt [] = refl
 spoilt (f ∷ fs) = go (field_number f) (spoilt fs)
   where
     go : (n : Option ℕ) → numbers_after Other fs ≡ Other → numbers_after (with_field Other n) fs ≡ Other
-    go (some n) rest = rest
-    go none rest = rest
+    go (Some n) rest = rest
+    go None rest = rest
 
 module _ (line : List ℕ) (at : ℕ) (space : at < length line) where
   -- the field after a space, and the fields after it
@@ -56,19 +54,19 @@ module _ (line : List ℕ) (at : ℕ) (space : at < length line) where
       (fields_first (drop (at + 1) line) ∙ rw drop-drop)
 
   module _ (numbers : Numbers) where
-    pub numbers_none : number_at line (at + 1) ≡ NoNumber → numbers_after numbers (fields_after (drop at line)) ≡ Other
+    pub numbers_none : number_at line (at + 1) ≡ None → numbers_after numbers (fields_after (drop at line)) ≡ Other
     unfolding number_at numbers_after field_number
     numbers_none e = rw one_field (go (is_number f) e)
       where
         f : List ℕ
         f = first_field (drop (at + 1) line)
 
-        go : (b : Bool) → cond b (parsed (value_after 0 f) (at + 1 + length f)) NoNumber ≡ NoNumber
-            → numbers_after (with_field numbers (cond b (some (value_after 0 f)) none)) (fields_after (drop (at + 1 + length f) line)) ≡ Other
+        go : (b : Bool) → cond b (parsed (value_after 0 f) (at + 1 + length f)) None ≡ None
+            → numbers_after (with_field numbers (cond b (Some (value_after 0 f)) None)) (fields_after (drop (at + 1 + length f) line)) ≡ Other
         go true p = let z : ◌≡◌ {A = ℕ} 0 1 = cc in absurd (omega arith)
         go false p = spoilt (fields_after (drop (at + 1 + length f) line))
 
-    pub numbers_more : (field : Field) → number_at line (at + 1) ≡ Parsed field
+    pub numbers_more : (field : Field) → number_at line (at + 1) ≡ Some field
         → numbers_after numbers (fields_after (drop at line)) ≡ numbers_after (with_number numbers field.value) (fields_after (drop field.next line))
     unfolding number_at numbers_after field_number
     numbers_more field e = rw one_field (go (is_number f) e)
@@ -76,8 +74,8 @@ module _ (line : List ℕ) (at : ℕ) (space : at < length line) where
         f : List ℕ
         f = first_field (drop (at + 1) line)
 
-        go : (b : Bool) → cond b (parsed (value_after 0 f) (at + 1 + length f)) NoNumber ≡ Parsed field
-            → numbers_after (with_field numbers (cond b (some (value_after 0 f)) none)) (fields_after (drop (at + 1 + length f) line))
+        go : (b : Bool) → cond b (parsed (value_after 0 f) (at + 1 + length f)) None ≡ Some field
+            → numbers_after (with_field numbers (cond b (Some (value_after 0 f)) None)) (fields_after (drop (at + 1 + length f) line))
             ≡ numbers_after (with_number numbers field.value) (fields_after (drop field.next line))
         go true p =
             let same : record { value = value_after 0 f; next = at + 1 + length f } ≡ field = cc in
@@ -85,14 +83,14 @@ module _ (line : List ℕ) (at : ℕ) (space : at < length line) where
         go false p = let z : ◌≡◌ {A = ℕ} 0 1 = cc in absurd (omega arith)
 
   -- a field lies in the line
-  pub next_inside : (field : Field) → number_at line (at + 1) ≡ Parsed field → (at < field.next) × (field.next ≤ length line)
+  pub next_inside : (field : Field) → number_at line (at + 1) ≡ Some field → (at < field.next) × (field.next ≤ length line)
   unfolding number_at
   next_inside field = go (is_number f)
     where
       f : List ℕ
       f = first_field (drop (at + 1) line)
 
-      go : (b : Bool) → cond b (parsed (value_after 0 f) (at + 1 + length f)) NoNumber ≡ Parsed field → (at < field.next) × (field.next ≤ length line)
+      go : (b : Bool) → cond b (parsed (value_after 0 f) (at + 1 + length f)) None ≡ Some field → (at < field.next) × (field.next ≤ length line)
       go true p =
           let same : record { value = value_after 0 f; next = at + 1 + length f } ≡ field = cc in
           let inside : length f ≤ length line - (at + 1) = rw (← length-drop) (first_inside (drop (at + 1) line)) in
@@ -100,12 +98,12 @@ module _ (line : List ℕ) (at : ℕ) (space : at < length line) where
       go false p = let z : ◌≡◌ {A = ℕ} 0 1 = cc in absurd (omega arith)
 
 -- no form has a letter alone, or no letter
-pub short : (line : List ℕ) → length line < 2 → request_in (fields line) ≡ Unknown
+pub short : (line : List ℕ) → length line < 2 → request_in (fields line) ≡ None
 unfolding request_in fields numbers_after request_for
 short [] h = refl
 short (a ∷ []) h = go (eqb a 32)
   where
-    go : (x : Bool) → request_in (cond x ([] ∷ [] ∷ []) ((a ∷ []) ∷ [])) ≡ Unknown
+    go : (x : Bool) → request_in (cond x ([] ∷ [] ∷ []) ((a ∷ []) ∷ [])) ≡ None
     go true = refl
     go false = simp cond_same
 short (a ∷ b ∷ bs) h = absurd (omega arith)
@@ -122,13 +120,13 @@ spaced (a ∷ b ∷ bs) h e = simp (eq-eqb b 32 e) (go (eqb a 32) refl)
     go false p = refl
 
 -- a letter, and something else after it
-pub run_on : (line : List ℕ) → 1 < length line → (get_or line 1 0 ≡ 32 → ⊥) → request_in (fields line) ≡ Unknown
+pub run_on : (line : List ℕ) → 1 < length line → (get_or line 1 0 ≡ 32 → ⊥) → request_in (fields line) ≡ None
 unfolding request_in fields
 run_on [] h e = absurd (omega arith)
 run_on (a ∷ []) h e = absurd (omega arith)
 run_on (a ∷ b ∷ bs) h e = simp (ne_eqb b 32 e) (go (eqb a 32) (fields bs))
   where
-    go : (x : Bool) (fs : List (List ℕ)) → request_in (cond x ([] ∷ longer b fs) (longer a (longer b fs))) ≡ Unknown
+    go : (x : Bool) (fs : List (List ℕ)) → request_in (cond x ([] ∷ longer b fs) (longer a (longer b fs))) ≡ None
     go true fs = refl
     go false [] = refl
     go false (f ∷ fs) = refl

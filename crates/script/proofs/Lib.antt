@@ -1,5 +1,4 @@
 -- Laws that belong to no one function.
-pub mod Forms
 pub mod Digits
 pub mod Fields
 pub mod Puts

@@ -2,7 +2,6 @@
 use mathlib.Core.Path.{◌≡◌, refl, ap, ◌∙◌}
 use mathlib.Core.Bool.{Bool, true, false, cond, ◌&&◌}
 use mathlib.Core.List.{List, [], ◌∷◌, ◌++◌}
-use mathlib.Core.Option.{some}
 use Prim.Native.Nat.{ℕ, zero, suc, ◌+◌, ◌-◌, ◌*◌, ◌/◌, ◌%◌, ◌^◌, ◌≤◌, ◌<◌}
 use native.Mathlib.Nat.{add-zero, pow-suc}
 use native.Mathlib.Omega.{arith}
@@ -10,8 +9,10 @@ use lib.Dec.{ltb}
 use lib.ListN.{length, set, length-append}
 use lib.Seq.{sets, length-sets}
 use borrow.Author.Tests.{lt-ltb, le-ltb, le-leb, ltb-true, ltb-false}
+use Rattle.std.specs.Prelude.{Some}
 use Rattle.script.specs.Line.{is_digit, digits_only, value_after, is_number, field_number}
-use Rattle.script.specs.Text.{decimal_within, decimal, PutText}
+use Rattle.script.specs.declared.text.Writer.{Writer}
+use Rattle.script.specs.Text.{decimal_within, decimal, PutText, Puts}
 
 sets_append : (x y s : List ℕ) (i : ℕ) → sets (sets s i x) (i + length x) y ≡ sets s i (x ++ y)
 sets_append [] y s i = rw add-zero
@@ -30,6 +31,9 @@ put_then {x} {y} {s} {s'} {s''} {at} {end} {end'} p q = record {
   bytes = q.bytes ∙ rw (p.bytes, p.past) (sets_append x y s at);
   past = let a = p.past in let b = q.past in rw length-append (omega arith);
 }
+
+pub puts_then : {x y : List ℕ} {w w' w'' : Writer} → Puts x w w' → Puts y w' w'' → Puts (x ++ y) w w''
+puts_then p q = record { put = put_then p.put q.put; same_reference = q.same_reference ∙ p.same_reference }
 
 pub put_one : (b : ℕ) (s : List ℕ) (at : ℕ) → at < length s → PutText (b ∷ []) at s (set s at b) (at + 1)
 put_one b s at h = record { fits = omega arith; bytes = refl; past = refl }
@@ -137,6 +141,6 @@ unfolding decimal
 decimal_digits n h = (says 19 n (omega arith)).digits
 
 -- the text of a number is a number, the same
-pub decimal_read_back : (n : ℕ) → n < 2 ^ 64 → field_number (decimal n) ≡ some n
+pub decimal_read_back : (n : ℕ) → n < 2 ^ 64 → field_number (decimal n) ≡ Some n
 unfolding field_number is_number decimal
 decimal_read_back n h = let it = says 19 n (omega arith) in simp (lt-ltb 0 (length (decimal_within 20 n)) it.some_digit, it.digits, it.value, lt-ltb n (2 ^ 64) h)

@@ -1,6 +1,5 @@
 -- A letter and numbers in decimal, with one space before each, are that letter and these numbers. Assumes nothing.
 use mathlib.Core.Path.{◌≡◌, refl, sym, ap, ◌∙◌}
-use mathlib.Core.Option.{Option}
 use mathlib.Core.Bool.{Bool, true, false, ◌&&◌, true≢false}
 use mathlib.Core.List.{List, [], ◌∷◌, ◌++◌, map}
 use Prim.Native.Nat.{ℕ, ◌≤◌, ◌<◌, ◌^◌}
@@ -8,6 +7,7 @@ use native.Mathlib.Omega.{arith}
 use lib.Dec.{eqb, leb}
 use lib.ListN.{length}
 use borrow.Author.Tests.{ne_eqb, le-leb, leb-true}
+use Rattle.std.specs.Prelude.{Option}
 use Rattle.script.specs.declared.request.Numbers.{Numbers}
 use Rattle.script.specs.declared.request.Numbers.TheVariants.{Zero}
 use Rattle.script.specs.Request.{with_number, request_for}

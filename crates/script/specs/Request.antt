@@ -1,18 +1,13 @@
 -- What a line asks for, by its letter and its numbers: document 01, "The runner's lines".
-use Rattle.std.specs.Prelude.{cond, ℕ, eqb, leb}
-use Rattle.register.specs.declared.frame.DecodedWidth.{DecodedWidth}
-use Rattle.register.specs.declared.frame.DecodedWidth.TheVariants.{Valid, Reserved}
+use Rattle.std.specs.Prelude.{cond, ℕ, eqb, leb, Option, Some, None}
 use Rattle.register.specs.Frame.{decoded_width}
 use Rattle.script.specs.declared.request.Access.{Access}
 use Rattle.script.specs.declared.request.Store.{Store}
 use Rattle.script.specs.declared.request.Numbers.{Numbers}
 use Rattle.script.specs.declared.request.Numbers.TheVariants.{Zero, One, Two, Three, Four, Other}
-use Rattle.script.specs.declared.request.AccessFields.{AccessFields}
-use Rattle.script.specs.declared.request.AccessFields.TheVariants.{Reads, NoAccess}
-use Rattle.script.specs.declared.request.StoreFields.{StoreFields}
-use Rattle.script.specs.declared.request.StoreFields.TheVariants.{Writes, NoStore}
 use Rattle.script.specs.declared.request.Request.{Request}
-use Rattle.script.specs.declared.request.Request.TheVariants.{Setup, ReadDistributor, WriteDistributor, ReadCpuInterface, WriteCpuInterface, SetLevel, Pulse, Unknown}
+use Rattle.script.specs.declared.request.Request.TheVariants.{Setup, ReadDistributor, WriteDistributor, ReadCpuInterface, WriteCpuInterface, SetLevel, Pulse}
+use Rattle.register.specs.declared.frame.AccessWidth.{AccessWidth}
 
 -- one number more: no form has more than four
 abbrev pub with_number : Numbers → ℕ → Numbers
@@ -51,47 +46,47 @@ of_four form other (Four a b c d) = form a b c d
 of_four form other Other = other
 
 -- `vcpu offset width`; "so does a width field other than 1, 2, 4 or 8"
-abbrev pub access_at : ℕ → ℕ → DecodedWidth → AccessFields
-access_at vcpu offset (Valid width) = Reads (record { vcpu = record { 0 = vcpu }; offset = offset; width = width })
-access_at vcpu offset Reserved = NoAccess
+abbrev pub access_at : ℕ → ℕ → Option AccessWidth → Option Access
+access_at vcpu offset (Some width) = Some (record { vcpu = record { 0 = vcpu }; offset = offset; width = width })
+access_at vcpu offset None = None
 
-abbrev pub access_of : Numbers → AccessFields
-access_of = of_three (λ vcpu offset width. access_at vcpu offset (decoded_width width)) NoAccess
+abbrev pub access_of : Numbers → Option Access
+access_of = of_three (λ vcpu offset width. access_at vcpu offset (decoded_width width)) None
 
 -- `vcpu offset width value`
-abbrev pub store_at : ℕ → ℕ → DecodedWidth → ℕ → StoreFields
-store_at vcpu offset (Valid width) value = Writes (record { vcpu = record { 0 = vcpu }; offset = offset; width = width; value = value })
-store_at vcpu offset Reserved value = NoStore
+abbrev pub store_at : ℕ → ℕ → Option AccessWidth → ℕ → Option Store
+store_at vcpu offset (Some width) value = Some (record { vcpu = record { 0 = vcpu }; offset = offset; width = width; value = value })
+store_at vcpu offset None value = None
 
-abbrev pub store_of : Numbers → StoreFields
-store_of = of_four (λ vcpu offset width value. store_at vcpu offset (decoded_width width) value) NoStore
+abbrev pub store_of : Numbers → Option Store
+store_of = of_four (λ vcpu offset width value. store_at vcpu offset (decoded_width width) value) None
 
-abbrev pub as_read : (Access → Request) → AccessFields → Request
-as_read form (Reads access) = form access
-as_read form NoAccess = Unknown
+abbrev pub as_read : (Access → Request) → Option Access → Option Request
+as_read form (Some access) = Some (form access)
+as_read form None = None
 
-abbrev pub as_write : (Store → Request) → StoreFields → Request
-as_write form (Writes store) = form store
-as_write form NoStore = Unknown
+abbrev pub as_write : (Store → Request) → Option Store → Option Request
+as_write form (Some store) = Some (form store)
+as_write form None = None
 
 -- `n count limit`
-abbrev pub setup_for : Numbers → Request
-setup_for = of_two (λ count limit. Setup (record { count = count; limit = limit })) Unknown
+abbrev pub setup_for : Numbers → Option Request
+setup_for = of_two (λ count limit. Some (Setup (record { count = count; limit = limit }))) None
 
 -- `l vcpu id 0|1`; "so does .. a line level other than 0 or 1"
-abbrev pub level_at : ℕ → ℕ → ℕ → Request
+abbrev pub level_at : ℕ → ℕ → ℕ → Option Request
 level_at vcpu number level =
-    cond (leb level 1) (SetLevel (record { vcpu = record { 0 = vcpu }; number = number; asserted = eqb level 1 })) Unknown
+    cond (leb level 1) (Some (SetLevel (record { vcpu = record { 0 = vcpu }; number = number; asserted = eqb level 1 }))) None
 
-abbrev pub level_of : Numbers → Request
-level_of = of_three level_at Unknown
+abbrev pub level_of : Numbers → Option Request
+level_of = of_three level_at None
 
 -- `p vcpu id`
-abbrev pub pulse_of : Numbers → Request
-pulse_of = of_two (λ vcpu number. Pulse (record { vcpu = record { 0 = vcpu }; number = number })) Unknown
+abbrev pub pulse_of : Numbers → Option Request
+pulse_of = of_two (λ vcpu number. Some (Pulse (record { vcpu = record { 0 = vcpu }; number = number }))) None
 
 -- the letters n, d, D, c, C, l, p, by their ASCII codes
-unfoldable pub request_for : ℕ → Numbers → Request
+unfoldable pub request_for : ℕ → Numbers → Option Request
 request_for letter numbers =
     cond (eqb letter 110) (setup_for numbers)
     (cond (eqb letter 100) (as_read ReadDistributor (access_of numbers))
@@ -100,4 +95,4 @@ request_for letter numbers =
     (cond (eqb letter 67) (as_write WriteCpuInterface (store_of numbers))
     (cond (eqb letter 108) (level_of numbers)
     (cond (eqb letter 112) (pulse_of numbers)
-    Unknown))))))
+    None))))))

@@ -2,6 +2,7 @@
 -- other form prints `?`"; by its example the numbers are decimal, with one space between, and a newline ends them.
 use Rattle.std.specs.Prelude.{cond, List, [], ◌∷◌, ◌++◌, ◌≡◌, ℕ, zero, suc, ◌+◌, ◌/◌, ◌%◌, ◌≤◌, ltb, length}
 use Rattle.std.proofs.lemmas.List.Edits.{sets}
+use Rattle.script.specs.declared.text.Writer.{Writer}
 
 -- the decimal digits of a number of at most k digits, without leading zeros
 unfoldable pub decimal_within : ℕ → ℕ → List ℕ
@@ -26,3 +27,8 @@ pub record PutText (text : List ℕ) (at : ℕ) (before after : List ℕ) (end :
   pub fits : at + length text ≤ length before
   pub bytes : after ≡ sets before at text
   pub past : end ≡ at + length text
+
+-- a writer put the text: its next place is then the end, and it still writes to the same bytes
+pub record Puts (text : List ℕ) (before after : Writer) : Type 0 where
+  pub put : PutText text before.at before.out.now after.out.now after.at
+  pub same_reference : after.out.ghost_name ≡ before.out.ghost_name

@@ -8,4 +8,4 @@ pub mod text;
 
 pub use line::parse_line;
 pub use request::{Access, Input, LineLevel, Request, Size, Store};
-pub use text::{put_answer, put_unknown};
+pub use text::Writer;

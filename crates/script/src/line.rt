@@ -4,7 +4,7 @@ ghost use Rattle.script.specs.declared.request.Numbers.TheVariants.{Zero};
 ghost use Rattle.script.specs.Line.{numbers_after, request_of};
 ghost use Rattle.script.specs.Reading.{fields_after};
 
-use crate::number::{Number, number_at};
+use crate::number::number_at;
 use crate::request::{Numbers, Request, request_for};
 
 const LONGEST: usize = 80;
@@ -16,8 +16,9 @@ fn numbers(line: &[u8], from: usize) -> Numbers
 {
     let mut so_far = Numbers::Zero;
     let mut at = from;
+    // No `for`: a turn goes on from where its field ends.
     while at < line.len() {
-        let Number::Parsed(field) = number_at(line, at + 1) else {
+        let Some(field) = number_at(line, at + 1) else {
             return Numbers::Other;
         };
         so_far = so_far.with(field.value);
@@ -27,17 +28,14 @@ fn numbers(line: &[u8], from: usize) -> Numbers
 }
 
 #[tactic(auto, using(crate::proofs::Fields::short, crate::proofs::Fields::spaced, crate::proofs::Fields::run_on), unfolding(crate::specs::Line::request_of))]
-pub fn parse_line(line: &[u8]) -> Request
+pub fn parse_line(line: &[u8]) -> Option<Request>
     ensures { result ≡ request_of line.now }
 {
     if LONGEST < line.len() {
-        return Request::Unknown;
+        return None;
     }
-    if line.len() < 2 {
-        return Request::Unknown;
-    }
-    if line[1] == b' ' {
-        return request_for(line[0], numbers(line, 1));
-    }
-    Request::Unknown
+    let [letter, b' ', ..] = line else {
+        return None;
+    };
+    request_for(*letter, numbers(line, 1))
 }

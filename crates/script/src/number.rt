@@ -9,64 +9,35 @@ pub struct Field {
     pub next: usize,
 }
 
-#[derive(Clone, Copy)]
-pub enum Number {
-    Parsed(Field),
-    NoNumber,
-}
-
-// What the digits so far stand for.
-#[derive(Clone, Copy)]
-pub enum Digits {
-    Value(u64),
-    NoDigit,
-}
-
-// The largest number is 18446744073709551615: a digit more may be no number any more.
+// What the digits so far stand for with one more: the largest number is 18446744073709551615.
 #[tactic(auto, unfolding(crate::specs::Reading::digit_after))]
-fn more_digits(value: u64, byte: u8) -> Digits
+fn more_digits(value: u64, byte: u8) -> Option<u64>
     ensures { result ≡ digit_after value byte }
 {
-    if byte < b'0' {
-        return Digits::NoDigit;
+    if !byte.is_ascii_digit() {
+        return None;
     }
-    if b'9' < byte {
-        return Digits::NoDigit;
-    }
-    let digit = (byte - b'0') as u64;
-    if (u64::MAX - digit) / 10 < value {
-        return Digits::NoDigit;
-    }
-    Digits::Value(10 * value + digit)
+    value.checked_mul(10)?.checked_add((byte - b'0') as u64)
 }
 
 // An empty field is no number.
-fn ended(from: usize, to: usize, value: u64) -> Number
+fn ended(from: usize, to: usize, value: u64) -> Option<Field>
     ensures { result ≡ ended_at from to value }
 {
-    if from < to {
-        Number::Parsed(Field { value, next: to })
-    } else {
-        Number::NoNumber
-    }
+    (from < to).then_some(Field { value, next: to })
 }
 
-pub fn number_at(line: &[u8], at: usize) -> Number
+pub fn number_at(line: &[u8], at: usize) -> Option<Field>
     requires { at ≤ length line.now }
     ensures { result ≡ number_at line.now at }
 {
     let mut value: u64 = 0;
-    let mut i = at;
-    while i < line.len() {
+    for i in at..line.len() {
         let byte = line[i];
         if byte == b' ' {
             return ended(at, i, value);
         }
-        let Digits::Value(more) = more_digits(value, byte) else {
-            return Number::NoNumber;
-        };
-        value = more;
-        i += 1;
+        value = more_digits(value, byte)?;
     }
-    ended(at, i, value)
+    ended(at, line.len(), value)
 }

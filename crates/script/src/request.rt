@@ -1,10 +1,9 @@
 // What a line asks for, by its letter and the numbers after it.
 ghost use Rattle.std.specs.Prelude.{◌≡◌};
-ghost use Rattle.script.specs.declared.request.Request.TheVariants.{ReadDistributor, WriteDistributor, ReadCpuInterface, WriteCpuInterface};
-ghost use Rattle.script.specs.Request.{with_number, access_of, store_of, setup_for, as_read, as_write, level_of, pulse_of, request_for};
+ghost use Rattle.script.specs.Request.{with_number, access_of, store_of, setup_for, level_of, pulse_of, request_for};
 
 use interrupt::GicVcpuId;
-use register::{AccessWidth, DecodedWidth};
+use register::AccessWidth;
 
 // `n count limit`.
 #[derive(Clone, Copy)]
@@ -54,10 +53,10 @@ pub enum Request {
     WriteCpuInterface(Store),
     SetLevel(LineLevel),
     Pulse(Input),
-    Unknown,
 }
 
-// The numbers of a line: no form has more than four.
+// The numbers of a line. An enum and no list, since a pattern then tells a form by their count; and no `Option`, since `Other` is one more
+// count that no form has: more than four, or a field that is no number.
 #[derive(Clone, Copy)]
 pub enum Numbers {
     Zero,
@@ -66,18 +65,6 @@ pub enum Numbers {
     Three(u64, u64, u64),
     Four(u64, u64, u64, u64),
     Other,
-}
-
-#[derive(Clone, Copy)]
-pub enum AccessFields {
-    Reads(Access),
-    NoAccess,
-}
-
-#[derive(Clone, Copy)]
-pub enum StoreFields {
-    Writes(Store),
-    NoStore,
 }
 
 impl Numbers {
@@ -89,38 +76,33 @@ impl Numbers {
             Numbers::One(a) => Numbers::Two(a, value),
             Numbers::Two(a, b) => Numbers::Three(a, b, value),
             Numbers::Three(a, b, c) => Numbers::Four(a, b, c, value),
-            Numbers::Four(_, _, _, _) => Numbers::Other,
-            Numbers::Other => Numbers::Other,
+            Numbers::Four(..) | Numbers::Other => Numbers::Other,
         }
     }
 }
 
-fn read_fields(numbers: Numbers) -> AccessFields
+fn read_fields(numbers: Numbers) -> Option<Access>
     ensures { result ≡ access_of numbers }
 {
     let Numbers::Three(vcpu, offset, bytes) = numbers else {
-        return AccessFields::NoAccess;
+        return None;
     };
-    let DecodedWidth::Valid(width) = AccessWidth::new(bytes) else {
-        return AccessFields::NoAccess;
-    };
-    AccessFields::Reads(Access {
+    let width = AccessWidth::new(bytes)?;
+    Some(Access {
         vcpu: GicVcpuId(vcpu as usize),
         offset,
         width,
     })
 }
 
-fn write_fields(numbers: Numbers) -> StoreFields
+fn write_fields(numbers: Numbers) -> Option<Store>
     ensures { result ≡ store_of numbers }
 {
     let Numbers::Four(vcpu, offset, bytes, value) = numbers else {
-        return StoreFields::NoStore;
+        return None;
     };
-    let DecodedWidth::Valid(width) = AccessWidth::new(bytes) else {
-        return StoreFields::NoStore;
-    };
-    StoreFields::Writes(Store {
+    let width = AccessWidth::new(bytes)?;
+    Some(Store {
         vcpu: GicVcpuId(vcpu as usize),
         offset,
         width,
@@ -128,91 +110,55 @@ fn write_fields(numbers: Numbers) -> StoreFields
     })
 }
 
-fn setup(numbers: Numbers) -> Request
+fn setup(numbers: Numbers) -> Option<Request>
     ensures { result ≡ setup_for numbers }
 {
     let Numbers::Two(count, limit) = numbers else {
-        return Request::Unknown;
+        return None;
     };
-    Request::Setup(Size { count, limit })
+    Some(Request::Setup(Size { count, limit }))
 }
 
-fn read_distributor(numbers: Numbers) -> Request
-    ensures { result ≡ as_read ReadDistributor (access_of numbers) }
-{
-    let AccessFields::Reads(read) = read_fields(numbers) else {
-        return Request::Unknown;
-    };
-    Request::ReadDistributor(read)
-}
-
-fn read_cpu_interface(numbers: Numbers) -> Request
-    ensures { result ≡ as_read ReadCpuInterface (access_of numbers) }
-{
-    let AccessFields::Reads(read) = read_fields(numbers) else {
-        return Request::Unknown;
-    };
-    Request::ReadCpuInterface(read)
-}
-
-fn write_distributor(numbers: Numbers) -> Request
-    ensures { result ≡ as_write WriteDistributor (store_of numbers) }
-{
-    let StoreFields::Writes(write) = write_fields(numbers) else {
-        return Request::Unknown;
-    };
-    Request::WriteDistributor(write)
-}
-
-fn write_cpu_interface(numbers: Numbers) -> Request
-    ensures { result ≡ as_write WriteCpuInterface (store_of numbers) }
-{
-    let StoreFields::Writes(write) = write_fields(numbers) else {
-        return Request::Unknown;
-    };
-    Request::WriteCpuInterface(write)
-}
-
-fn set_level(numbers: Numbers) -> Request
+fn set_level(numbers: Numbers) -> Option<Request>
     ensures { result ≡ level_of numbers }
 {
     let Numbers::Three(vcpu, number, level) = numbers else {
-        return Request::Unknown;
+        return None;
     };
     if 1 < level {
-        return Request::Unknown;
+        return None;
     }
-    Request::SetLevel(LineLevel {
+    Some(Request::SetLevel(LineLevel {
         vcpu: GicVcpuId(vcpu as usize),
         number,
         asserted: level == 1,
-    })
+    }))
 }
 
-fn pulse(numbers: Numbers) -> Request
+fn pulse(numbers: Numbers) -> Option<Request>
     ensures { result ≡ pulse_of numbers }
 {
     let Numbers::Two(vcpu, number) = numbers else {
-        return Request::Unknown;
+        return None;
     };
-    Request::Pulse(Input {
+    Some(Request::Pulse(Input {
         vcpu: GicVcpuId(vcpu as usize),
         number,
-    })
+    }))
 }
 
 #[tactic(auto, unfolding(crate::specs::Request::request_for))]
-pub fn request_for(letter: u8, numbers: Numbers) -> Request
+pub fn request_for(letter: u8, numbers: Numbers) -> Option<Request>
     ensures { result ≡ request_for letter numbers }
 {
     match letter {
         b'n' => setup(numbers),
-        b'd' => read_distributor(numbers),
-        b'D' => write_distributor(numbers),
-        b'c' => read_cpu_interface(numbers),
-        b'C' => write_cpu_interface(numbers),
+        b'd' => read_fields(numbers).map(Request::ReadDistributor),
+        b'D' => write_fields(numbers).map(Request::WriteDistributor),
+        b'c' => read_fields(numbers).map(Request::ReadCpuInterface),
+        b'C' => write_fields(numbers).map(Request::WriteCpuInterface),
         b'l' => set_level(numbers),
         b'p' => pulse(numbers),
-        _ => Request::Unknown,
+        _ => None,
     }
 }

@@ -2,14 +2,14 @@
 -- after every script that a setup begins. Assumes nothing.
 use mathlib.Core.Path.{◌≡◌, refl, sym, subst, ◌∙◌}
 use mathlib.Core.List.{List, [], ◌∷◌}
-use mathlib.Core.Option.{Option, none, some}
 use Prim.Native.Nat.{ℕ}
 use lib.ListN.{get_or}
+use Rattle.std.specs.Prelude.{Option, Some, None}
 use Rattle.state.specs.Lent.{shaped}
 use Rattle.controller.specs.Start.{setup}
 use Rattle.lawful.specs.Lawful.{Orderly}
 use Rattle.script.specs.declared.request.Request.{Request}
-use Rattle.script.specs.declared.request.Request.TheVariants.{Setup, ReadDistributor, WriteDistributor, ReadCpuInterface, WriteCpuInterface, SetLevel, Pulse, Unknown}
+use Rattle.script.specs.declared.request.Request.TheVariants.{Setup, ReadDistributor, WriteDistributor, ReadCpuInterface, WriteCpuInterface, SetLevel, Pulse}
 use Rattle.script.specs.Line.{request_of}
 use Rattle.runner.specs.Runner as runner
 use Rattle.runner.specs.Runner.{line_answer, lines_printed}
@@ -22,15 +22,15 @@ pub a_line_is_a_call : (line s : List ℕ) → line_answer line s ≡ by_call (c
 unfolding line_answer runner.request_printed
 a_line_is_a_call line s = go (request_of line)
   where
-    go : (r : Request) → runner.request_printed r s ≡ by_call (call_of r) s
-    go (Setup n) = refl
-    go (ReadDistributor d) = refl
-    go (WriteDistributor d) = refl
-    go (ReadCpuInterface c) = refl
-    go (WriteCpuInterface c) = refl
-    go (SetLevel l) = refl
-    go (Pulse p) = refl
-    go Unknown = refl
+    go : (r : Option Request) → runner.asked_printed r s ≡ by_call (call_of r) s
+    go (Some (Setup n)) = refl
+    go (Some (ReadDistributor d)) = refl
+    go (Some (WriteDistributor d)) = refl
+    go (Some (ReadCpuInterface c)) = refl
+    go (Some (WriteCpuInterface c)) = refl
+    go (Some (SetLevel l)) = refl
+    go (Some (Pulse p)) = refl
+    go None = refl
 
 pub a_script_is_a_history : (lines : List (List ℕ)) (s : List ℕ) → (lines_printed lines s).state ≡ run (calls_of lines) s
 unfolding lines_printed calls_of run
@@ -39,8 +39,8 @@ a_script_is_a_history (line ∷ lines) s =
     a_script_is_a_history lines (line_answer line s).state ∙ rw (a_line_is_a_call line s) (go (call_of (request_of line)))
   where
     go : (o : Option Call) → run (calls_of lines) (by_call o s).state ≡ run (with_call o (calls_of lines)) s
-    go none = refl
-    go (some c) = refl
+    go None = refl
+    go (Some c) = refl
 
 -- demand 3 of scripts: after an accepted setup and any lines at all. Count and limit are those that the words store, as in `demand_three`
 abbrev pub OrderlyWords : List ℕ → Type 0

@@ -1,5 +1,6 @@
 -- Document 02, Five: "Selection by bits and by records agree on every such state", one whose summary is exact. So a candidate is enabled, pending
 -- and not active there. Assumes nothing.
+use Rattle.std.specs.Prelude.{Option}
 use mathlib.Core.Path.{◌≡◌, refl, sym, ap, ap₂, ◌∙◌}
 use mathlib.Core.Bool.{Bool, true, false, not, cond, ◌&&◌}
 use mathlib.Core.List.{List}
@@ -15,8 +16,8 @@ use Rattle.state.specs.Layout.{Slot}
 use Rattle.state.specs.Words.{word_at, record_at, ready_bit, interface_at, Exact}
 use Rattle.state.proofs.Accessors.{record_spi}
 use Rattle.state.proofs.Tests.{left_true, right_true}
-use Rattle.select.specs.declared.Selected.{Selected}
 use Rattle.select.specs.Select.{offered, eligible, ready_at, candidate, candidate_by_record, candidate_for, better, best_among, best, best_by_records}
+use Rattle.select.specs.declared.Candidate.{Candidate}
 
 module _ (shape : Shape) (v : ℕ) (s : List ℕ) (x : Exact shape s) where
   pub ready_by_record : (n : ℕ) → n < shape.limit → ready_at shape v s n ≡ is_ready (record_at shape v n s)
@@ -33,7 +34,7 @@ module _ (shape : Shape) (v : ℕ) (s : List ℕ) (x : Exact shape s) where
   agree_below : (n : ℕ) → n ≤ shape.limit → best_among (candidate shape v s) shape v s n ≡ best_among (candidate_by_record shape v s) shape v s n
   unfolding best_among
   agree_below zero h = refl
-  agree_below (suc n) h = ap₂ (λ (b : Bool) (y : Selected). better b (candidate_for shape v s n) y) (candidates_agree n h) (agree_below n (omega arith))
+  agree_below (suc n) h = ap₂ (λ (b : Bool) (y : Option Candidate). better b (candidate_for shape v s n) y) (candidates_agree n h) (agree_below n (omega arith))
 
   -- what is offered goes by the records
   pub bits_and_records : best shape v s ≡ best_by_records shape v s

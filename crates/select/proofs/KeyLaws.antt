@@ -1,4 +1,5 @@
 -- The least key of all records is the best candidate's. Assumes nothing.
+use Rattle.std.specs.Prelude.{Option, Some, None}
 use mathlib.Core.Path.{◌≡◌, refl, sym, ap, ◌∙◌}
 use mathlib.Core.Bool.{Bool, true, false, cond, ◌&&◌, and_comm}
 use mathlib.Core.List.{List}
@@ -18,24 +19,22 @@ use Rattle.state.proofs.Tests.{left_true, right_true}
 use Rattle.word.specs.Word.{record_of}
 use Rattle.select.specs.declared.WordTest.{WordTest}
 use Rattle.select.specs.declared.Candidate.{Candidate}
-use Rattle.select.specs.declared.Selected.{Selected}
-use Rattle.select.specs.declared.Selected.TheVariants.{Best, Nothing}
 use Rattle.select.specs.Select.{offered, candidate, candidate_for, wins, better, best_among, best_below, best, ready_at, Looked}
 use Rattle.select.specs.Keys.{private_bits, spi_bits, test_of, ready_word, key_of, selected_by, least, with_word, least_key, every_number, bit_is_set, LowEnough, urgent}
 use Rattle.select.proofs.Ready.{private_word, spi_word}
 
 -- a selection among the numbers below n, of a priority below the mask
-abbrev Bounded : ℕ → ℕ → Selected → Type 0
-Bounded mask n Nothing = Unit
-Bounded mask n (Best e) = (e.intid.0 < n) × (e.priority.0 < mask)
+abbrev Bounded : ℕ → ℕ → Option Candidate → Type 0
+Bounded mask n None = Unit
+Bounded mask n (Some e) = (e.intid.0 < n) × (e.priority.0 < mask)
 
-one_more : (mask n : ℕ) (b : Selected) → Bounded mask n b → Bounded mask (suc n) b
-one_more mask n Nothing h = tt
-one_more mask n (Best e) h = (let a : e.intid.0 < n = h.0 in omega arith, h.1)
+one_more : (mask n : ℕ) (b : Option Candidate) → Bounded mask n b → Bounded mask (suc n) b
+one_more mask n None h = tt
+one_more mask n (Some e) h = (let a : e.intid.0 < n = h.0 in omega arith, h.1)
 
-key_back : (mask n : ℕ) (b : Selected) → n ≤ 1024 → Bounded mask n b → selected_by (1024 * mask) (key_of (1024 * mask) b) ≡ b
-key_back mask n Nothing h w = simp (le-ltb (1024 * mask) (1024 * mask) (le_refl (1024 * mask)))
-key_back mask n (Best e) h w =
+key_back : (mask n : ℕ) (b : Option Candidate) → n ≤ 1024 → Bounded mask n b → selected_by (1024 * mask) (key_of (1024 * mask) b) ≡ b
+key_back mask n None h w = simp (le-ltb (1024 * mask) (1024 * mask) (le_refl (1024 * mask)))
+key_back mask n (Some e) h w =
     let i : e.intid.0 < n = w.0 in
     let p : e.priority.0 < mask = w.1 in
     let k : 1024 * e.priority.0 + e.intid.0 < 1024 * mask = omega arith in
@@ -44,18 +43,18 @@ key_back mask n (Best e) h w =
     simp (lt-ltb _ _ k, a, b)
 
 -- below the mask and below a bound at once
-pub bound_key : (mask bound n : ℕ) (b : Selected) → n ≤ 1024 → Bounded mask n b → ltb (key_of (1024 * mask) b) (least (1024 * mask) (1024 * bound)) ≡ urgent bound b
+pub bound_key : (mask bound n : ℕ) (b : Option Candidate) → n ≤ 1024 → Bounded mask n b → ltb (key_of (1024 * mask) b) (least (1024 * mask) (1024 * bound)) ≡ urgent bound b
 bound_key mask bound n b h w = go (ltb (1024 * mask) (1024 * bound)) refl b w
   where
-    go : (t : Bool) → ltb (1024 * mask) (1024 * bound) ≡ t → (b : Selected) → Bounded mask n b → ltb (key_of (1024 * mask) b) (cond t (1024 * mask) (1024 * bound)) ≡ urgent bound b
-    go true e Nothing w = le-ltb (1024 * mask) (1024 * mask) (le_refl (1024 * mask))
-    go false e Nothing w = le-ltb (1024 * mask) (1024 * bound) (ltb-false _ _ e)
-    go true e (Best c) w =
+    go : (t : Bool) → ltb (1024 * mask) (1024 * bound) ≡ t → (b : Option Candidate) → Bounded mask n b → ltb (key_of (1024 * mask) b) (cond t (1024 * mask) (1024 * bound)) ≡ urgent bound b
+    go true e None w = le-ltb (1024 * mask) (1024 * mask) (le_refl (1024 * mask))
+    go false e None w = le-ltb (1024 * mask) (1024 * bound) (ltb-false _ _ e)
+    go true e (Some c) w =
         let i : c.intid.0 < n = w.0 in
         let p : c.priority.0 < mask = w.1 in
         let m = ltb-true (1024 * mask) (1024 * bound) e in
         lt-ltb (1024 * c.priority.0 + c.intid.0) (1024 * mask) (omega arith) ∙ sym (lt-ltb c.priority.0 bound (omega arith))
-    go false e (Best c) w = let i : c.intid.0 < n = w.0 in below (ltb c.priority.0 bound) refl i
+    go false e (Some c) w = let i : c.intid.0 < n = w.0 in below (ltb c.priority.0 bound) refl i
       where
         below : (x : Bool) → ltb c.priority.0 bound ≡ x → c.intid.0 < n → ltb (1024 * c.priority.0 + c.intid.0) (1024 * bound) ≡ x
         below true q i = let a = ltb-true c.priority.0 bound q in lt-ltb (1024 * c.priority.0 + c.intid.0) (1024 * bound) (omega arith)
@@ -71,9 +70,9 @@ low_exact full r (inl e) = e
 low_exact full r (inr w) = absurd (not-suc-le-zero w.0)
 
 -- what is at or past the mask changes nothing
-past_mask : (mask n k : ℕ) (x : Selected) → n ≤ 1024 → Bounded mask n x → 1024 * mask ≤ k → least k (key_of (1024 * mask) x) ≡ key_of (1024 * mask) x
-past_mask mask n k Nothing h w past = simp (le-ltb k (1024 * mask) past)
-past_mask mask n k (Best e) h w past =
+past_mask : (mask n k : ℕ) (x : Option Candidate) → n ≤ 1024 → Bounded mask n x → 1024 * mask ≤ k → least k (key_of (1024 * mask) x) ≡ key_of (1024 * mask) x
+past_mask mask n k None h w past = simp (le-ltb k (1024 * mask) past)
+past_mask mask n k (Some e) h w past =
     let i : e.intid.0 < n = w.0 in
     let p : e.priority.0 < mask = w.1 in
     simp (le-ltb k (1024 * e.priority.0 + e.intid.0) (omega arith))
@@ -103,14 +102,14 @@ module _ (shape : Shape) (v : ℕ) (s : List ℕ) where
   bounded (suc n) = go (candidate shape v s n && wins (candidate_for shape v s n) (best_below shape v s n)) refl (bounded n)
     where
       go : (b : Bool) → (candidate shape v s n && wins (candidate_for shape v s n) (best_below shape v s n)) ≡ b → Bounded mask n (best_below shape v s n)
-          → Bounded mask (suc n) (cond b (Best (candidate_for shape v s n)) (best_below shape v s n))
+          → Bounded mask (suc n) (cond b (Some (candidate_for shape v s n)) (best_below shape v s n))
       go true p h =
           let chosen = sym (candidate_is n) ∙ left_true (candidate shape v s n) (wins (candidate_for shape v s n) (best_below shape v s n)) p in
           (omega arith, ltb-true (priority n) mask (right_true (ready_of n) (ltb (priority n) mask) chosen))
       go false p h = one_more mask n (best_below shape v s n) h
 
   -- one number more
-  key_step : (n : ℕ) (fit : Bool) (x : Selected) → n < 1020 → Bounded mask n x
+  key_step : (n : ℕ) (fit : Bool) (x : Option Candidate) → n < 1020 → Bounded mask n x
       → cond fit (least (1024 * priority n + n) (key_of (1024 * mask) x)) (key_of (1024 * mask) x) ≡ key_of (1024 * mask) (better (fit && ltb (priority n) mask) (candidate_for shape v s n) x)
   key_step n false x h w = refl
   key_step n true x h w = go (ltb q mask) refl x w
@@ -119,14 +118,14 @@ module _ (shape : Shape) (v : ℕ) (s : List ℕ) where
       q = priority n
 
       tie : (e : Candidate) (b : Bool) → e.intid.0 < n → ltb q e.priority.0 ≡ b
-          → least (1024 * q + n) (1024 * e.priority.0 + e.intid.0) ≡ key_of (1024 * mask) (cond b (Best (candidate_for shape v s n)) (Best e))
+          → least (1024 * q + n) (1024 * e.priority.0 + e.intid.0) ≡ key_of (1024 * mask) (cond b (Some (candidate_for shape v s n)) (Some e))
       tie e true i p = let a = ltb-true q e.priority.0 p in simp (lt-ltb (1024 * q + n) (1024 * e.priority.0 + e.intid.0) (omega (arith, a)))
       tie e false i p = let a = ltb-false q e.priority.0 p in simp (le-ltb (1024 * q + n) (1024 * e.priority.0 + e.intid.0) (omega (arith, a, i)))
 
-      go : (b : Bool) → ltb q mask ≡ b → (x : Selected) → Bounded mask n x → least (1024 * q + n) (key_of (1024 * mask) x) ≡ key_of (1024 * mask) (better b (candidate_for shape v s n) x)
+      go : (b : Bool) → ltb q mask ≡ b → (x : Option Candidate) → Bounded mask n x → least (1024 * q + n) (key_of (1024 * mask) x) ≡ key_of (1024 * mask) (better b (candidate_for shape v s n) x)
       go false p x w = let a = ltb-false q mask p in past_mask mask n (1024 * q + n) x (omega arith) w (omega (arith, a))
-      go true p Nothing w = let a = ltb-true q mask p in simp (lt-ltb (1024 * q + n) (1024 * mask) (omega (arith, a)))
-      go true p (Best e) w = tie e (ltb q e.priority.0) w.0 refl
+      go true p None w = let a = ltb-true q mask p in simp (lt-ltb (1024 * q + n) (1024 * mask) (omega (arith, a)))
+      go true p (Some e) w = tie e (ltb q e.priority.0) w.0 refl
 
   one_more_best : (n : ℕ) → best_below shape v s (suc n) ≡ better (candidate shape v s n) (candidate_for shape v s n) (best_below shape v s n)
   unfolding best_among

@@ -1,5 +1,6 @@
 -- What the recursion behind `best` means: what it gives is the best of all candidates, and it gives none exactly if there is no candidate.
 -- Assumes nothing.
+use Rattle.std.specs.Prelude.{Option, Some, None}
 use mathlib.Core.Path.{◌≡◌, refl, sym, ◌∙◌, subst}
 use mathlib.Core.Bool.{Bool, true, false, cond, ◌&&◌, true≢false}
 use mathlib.Core.List.{List}
@@ -14,8 +15,6 @@ use Rattle.state.specs.Words.{record_at, interface_at}
 use Rattle.state.specs.declared.layout.InterfaceValue.TheVariants.{PriorityMask}
 use Rattle.state.proofs.Tests.{left_true, right_true}
 use Rattle.select.specs.declared.Candidate.{Candidate}
-use Rattle.select.specs.declared.Selected.{Selected}
-use Rattle.select.specs.declared.Selected.TheVariants.{Best, Nothing}
 use Rattle.select.specs.Select.{offered, ready_at, candidate, candidate_for, better, best_among, best_below, best, IsBest}
 
 module _ (shape : Shape) (v : ℕ) (s : List ℕ) where
@@ -27,14 +26,14 @@ module _ (shape : Shape) (v : ℕ) (s : List ℕ) where
       right_true (offered v n r) (ready_at shape v s n) (left_true (offered v n r && ready_at shape v s n) (ltb r.priority.0 (interface_at shape v PriorityMask s)) c)
 
   -- what a selection says of the numbers below n
-  abbrev Means : ℕ → Selected → Type 0
-  Means n Nothing = (m : ℕ) → m < n → candidate shape v s m ≡ false
-  Means n (Best e) = IsBest shape v s n e
+  abbrev Means : ℕ → Option Candidate → Type 0
+  Means n None = (m : ℕ) → m < n → candidate shape v s m ≡ false
+  Means n (Some e) = IsBest shape v s n e
 
   -- one number more
-  passed : (n : ℕ) (b : Selected) → candidate shape v s n ≡ false → Means n b → Means (suc n) b
-  passed n Nothing neg none = λ m h. last_or m n h (λ p. rw p neg) (λ below. none m below)
-  passed n (Best e) neg is = record {
+  passed : (n : ℕ) (b : Option Candidate) → candidate shape v s n ≡ false → Means n b → Means (suc n) b
+  passed n None neg none = λ m h. last_or m n h (λ p. rw p neg) (λ below. none m below)
+  passed n (Some e) neg is = record {
     below = let h : e.intid.0 < n = is.below in omega arith;
     chosen = is.chosen;
     priority = is.priority;
@@ -42,20 +41,20 @@ module _ (shape : Shape) (v : ℕ) (s : List ℕ) where
     first = λ m h pos same. last_or m n h (λ p. absurd (true≢false (sym pos ∙ rw p neg))) (λ below. is.first m below pos same);
   }
 
-  taken : (n : ℕ) (b : Selected) → candidate shape v s n ≡ true → Means n b → Means (suc n) (better true (candidate_for shape v s n) b)
-  taken n Nothing pos none = record {
+  taken : (n : ℕ) (b : Option Candidate) → candidate shape v s n ≡ true → Means n b → Means (suc n) (better true (candidate_for shape v s n) b)
+  taken n None pos none = record {
     below = omega arith;
     chosen = pos;
     priority = refl;
     smallest = λ m h c. last_or m n h (λ p. rw p (omega arith)) (λ below. absurd (true≢false (sym c ∙ none m below)));
     first = λ m h c same. last_or m n h (λ p. omega arith) (λ below. absurd (true≢false (sym c ∙ none m below)));
   }
-  taken n (Best e) pos is = go (ltb q e.priority.0) refl
+  taken n (Some e) pos is = go (ltb q e.priority.0) refl
     where
       q : ℕ
       q = (record_at shape v n s).priority.0
 
-      go : (b : Bool) → ltb q e.priority.0 ≡ b → Means (suc n) (cond b (Best (candidate_for shape v s n)) (Best e))
+      go : (b : Bool) → ltb q e.priority.0 ≡ b → Means (suc n) (cond b (Some (candidate_for shape v s n)) (Some e))
       go true p = let ahead : q < e.priority.0 = ltb-true q e.priority.0 p in record {
         below = omega arith;
         chosen = pos;
@@ -80,31 +79,31 @@ module _ (shape : Shape) (v : ℕ) (s : List ℕ) where
       go true pos is = taken n (best_below shape v s n) pos is
       go false neg is = passed n (best_below shape v s n) neg is
 
-  meant : (b : Selected) → best shape v s ≡ b → Means shape.limit b
-  meant b p = subst (λ (x : Selected). Means shape.limit x) p (means shape.limit)
+  meant : (b : Option Candidate) → best shape v s ≡ b → Means shape.limit b
+  meant b p = subst (λ (x : Option Candidate). Means shape.limit x) p (means shape.limit)
 
   -- the best is a candidate, and neg candidate is before it
-  pub best_is : (e : Candidate) → best shape v s ≡ Best e → IsBest shape v s shape.limit e
-  best_is e p = meant (Best e) p
+  pub best_is : (e : Candidate) → best shape v s ≡ Some e → IsBest shape v s shape.limit e
+  best_is e p = meant (Some e) p
 
   -- none is given exactly if there is neg candidate
-  pub none_is : best shape v s ≡ Nothing → (m : ℕ) → m < shape.limit → candidate shape v s m ≡ false
-  none_is p = meant Nothing p
+  pub none_is : best shape v s ≡ None → (m : ℕ) → m < shape.limit → candidate shape v s m ≡ false
+  none_is p = meant None p
 
-  pub is_none : ((m : ℕ) → m < shape.limit → candidate shape v s m ≡ false) → best shape v s ≡ Nothing
+  pub is_none : ((m : ℕ) → m < shape.limit → candidate shape v s m ≡ false) → best shape v s ≡ None
   is_none none = go (best shape v s) refl
     where
-      go : (b : Selected) → best shape v s ≡ b → b ≡ Nothing
-      go Nothing p = refl
-      go (Best e) p = let is = best_is e p in absurd (true≢false (sym is.chosen ∙ none e.intid.0 is.below))
+      go : (b : Option Candidate) → best shape v s ≡ b → b ≡ None
+      go None p = refl
+      go (Some e) p = let is = best_is e p in absurd (true≢false (sym is.chosen ∙ none e.intid.0 is.below))
 
   -- and there is only one
-  pub is_best : (e : Candidate) → IsBest shape v s shape.limit e → best shape v s ≡ Best e
+  pub is_best : (e : Candidate) → IsBest shape v s shape.limit e → best shape v s ≡ Some e
   is_best e is = go (best shape v s) refl
     where
-      go : (b : Selected) → best shape v s ≡ b → b ≡ Best e
-      go Nothing p = absurd (true≢false (sym is.chosen ∙ none_is p e.intid.0 is.below))
-      go (Best d) p =
+      go : (b : Option Candidate) → best shape v s ≡ b → b ≡ Some e
+      go None p = absurd (true≢false (sym is.chosen ∙ none_is p e.intid.0 is.below))
+      go (Some d) p =
           let of : IsBest shape v s shape.limit d = best_is d p in
           let a = is.smallest d.intid.0 of.below of.chosen in
           let b = of.smallest e.intid.0 is.below is.chosen in
@@ -112,4 +111,4 @@ module _ (shape : Shape) (v : ℕ) (s : List ℕ) where
           let f = is.first d.intid.0 of.below of.chosen (sym of.priority ∙ q) in
           let g = of.first e.intid.0 is.below is.chosen (sym is.priority ∙ sym q) in
           let n : d.intid.0 ≡ e.intid.0 = omega (arith, f, g) in
-          λ i. Best (record { intid = record { 0 = n i }; priority = record { 0 = q i } })
+          λ i. Some (record { intid = record { 0 = n i }; priority = record { 0 = q i } })

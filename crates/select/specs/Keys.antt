@@ -1,15 +1,14 @@
 -- How `highest_pending` goes about it: of a run of records the least key, where a key is the priority with the number below it; of the SPIs only
 -- those whose bit is set, word by word of the summary. A reader need not believe any of it; the promise is in Select.antt.
-use Rattle.std.specs.Prelude.{Bool, true, false, cond, List, [], ◌∷◌, ◌⊎◌, ◌≡◌, ℕ, zero, suc, ◌+◌, ◌*◌, ◌/◌, ◌%◌, ◌^◌, ◌≤◌, ◌<◌, eqb, ltb, length, get_or}
+use Rattle.std.specs.Prelude.{Bool, true, false, cond, List, [], ◌∷◌, ◌⊎◌, ◌≡◌, ℕ, zero, suc, ◌+◌, ◌*◌, ◌/◌, ◌%◌, ◌^◌, ◌≤◌, ◌<◌, eqb, ltb, length, get_or, Option, Some, None}
 use Rattle.std.specs.Int.Bits.{bit_and}
 use Rattle.word.specs.Word.{bit_of, flag}
 use Rattle.state.specs.declared.layout.Shape.{Shape}
 use Rattle.state.specs.declared.layout.InterfaceValue.TheVariants.{PriorityMask}
 use Rattle.state.specs.Words.{ready_bit, interface_at}
 use Rattle.select.specs.declared.WordTest.{WordTest}
-use Rattle.select.specs.declared.Selected.{Selected}
-use Rattle.select.specs.declared.Selected.TheVariants.{Best, Nothing}
 use Rattle.select.specs.Select.{Looked}
+use Rattle.select.specs.declared.Candidate.{Candidate}
 
 -- a bit of a word, and how it is wanted
 pub record WantedBit : Type 0 where
@@ -43,13 +42,13 @@ abbrev pub ready_word : WordTest → ℕ → Bool
 ready_word test w = eqb (bit_and w test.care) test.wanted
 
 -- the key of a selection, `none` where there is none
-abbrev pub key_of : ℕ → Selected → ℕ
-key_of none Nothing = none
-key_of none (Best c) = 1024 * c.priority.0 + c.intid.0
+abbrev pub key_of : ℕ → Option Candidate → ℕ
+key_of none None = none
+key_of none (Some c) = 1024 * c.priority.0 + c.intid.0
 
 -- and back
-abbrev pub selected_by : ℕ → ℕ → Selected
-selected_by none key = cond (ltb key none) (Best (record { intid = record { 0 = key % 1024 }; priority = record { 0 = key / 1024 } })) Nothing
+abbrev pub selected_by : ℕ → ℕ → Option Candidate
+selected_by none key = cond (ltb key none) (Some (record { intid = record { 0 = key % 1024 }; priority = record { 0 = key / 1024 } })) None
 
 abbrev pub least : ℕ → ℕ → ℕ
 least a b = cond (ltb a b) a b
@@ -89,9 +88,9 @@ abbrev pub LowEnough : ℕ → ℕ → ℕ → Type 0
 LowEnough enough least-key r = (r ≡ least-key) ⊎ ((r < enough) × (least-key < enough))
 
 -- a selection of a priority below b
-abbrev pub urgent : ℕ → Selected → Bool
-urgent b Nothing = false
-urgent b (Best c) = ltb c.priority.0 b
+abbrev pub urgent : ℕ → Option Candidate → Bool
+urgent b None = false
+urgent b (Some c) = ltb c.priority.0 b
 
 -- the words hold a state with this vCPU, and `none` is the key where its mask begins
 pub record Sought (shape : Shape) (v none : ℕ) (s : List ℕ) : Type 0 where

@@ -1,7 +1,7 @@
 -- Which interrupt a vCPU is offered: document 01, "CPU interface places", Candidate and Best; document 02, Five, by the bits of the summary; IHI
 -- 0048, 3.3, "Interrupt prioritization".
 -- Left out on purpose: the running priority, which only an acknowledge looks at.
-use Rattle.std.specs.Prelude.{Bool, true, cond, ◌&&◌, ◌||◌, List, ◌≡◌, ℕ, zero, suc, ◌/◌, ◌%◌, ◌^◌, ◌≤◌, ◌<◌, eqb, ltb}
+use Rattle.std.specs.Prelude.{Bool, true, cond, ◌&&◌, ◌||◌, List, ◌≡◌, ℕ, zero, suc, ◌/◌, ◌%◌, ◌^◌, ◌≤◌, ◌<◌, eqb, ltb, Option, Some, None}
 use Rattle.interrupt.specs.Types.{is_private_id}
 use Rattle.interrupt.specs.Record.{is_ready}
 use Rattle.interrupt.specs.declared.record.InterruptRecord.{InterruptRecord}
@@ -11,8 +11,6 @@ use Rattle.state.specs.declared.layout.InterfaceValue.TheVariants.{Control, Prio
 use Rattle.state.specs.Layout.{Room}
 use Rattle.state.specs.Words.{record_at, ready_bit, interface_at, enable_bit, enabled_at}
 use Rattle.select.specs.declared.Candidate.{Candidate}
-use Rattle.select.specs.declared.Selected.{Selected}
-use Rattle.select.specs.declared.Selected.TheVariants.{Best, Nothing}
 
 -- the record r of the number n is one for the vCPU v: "its private interrupts, and SPIs whose mask names it"
 abbrev pub offered : ℕ → ℕ → InterruptRecord → Bool
@@ -39,26 +37,26 @@ abbrev pub candidate_for : Shape → ℕ → List ℕ → ℕ → Candidate
 candidate_for shape v s n = record { intid = record { 0 = n }; priority = (record_at shape v n s).priority }
 
 -- "smallest priority, then smallest number": a later number wins only with a strictly smaller priority
-abbrev pub wins : Candidate → Selected → Bool
-wins c Nothing = true
-wins c (Best b) = ltb c.priority.0 b.priority.0
+abbrev pub wins : Candidate → Option Candidate → Bool
+wins c None = true
+wins c (Some b) = ltb c.priority.0 b.priority.0
 
-abbrev pub better : Bool → Candidate → Selected → Selected
-better fit c b = cond (fit && wins c b) (Best c) b
+abbrev pub better : Bool → Candidate → Option Candidate → Option Candidate
+better fit c b = cond (fit && wins c b) (Some c) b
 
 -- of the numbers below n that fit
-unfoldable pub best_among : (ℕ → Bool) → Shape → ℕ → List ℕ → ℕ → Selected
-best_among fits shape v s zero = Nothing
+unfoldable pub best_among : (ℕ → Bool) → Shape → ℕ → List ℕ → ℕ → Option Candidate
+best_among fits shape v s zero = None
 best_among fits shape v s (suc n) = better (fits n) (candidate_for shape v s n) (best_among fits shape v s n)
 
-abbrev pub best_below : Shape → ℕ → List ℕ → ℕ → Selected
+abbrev pub best_below : Shape → ℕ → List ℕ → ℕ → Option Candidate
 best_below shape v s n = best_among (candidate shape v s) shape v s n
 
 -- of all numbers below the limit: a bit from there up is no candidate
-abbrev pub best : Shape → ℕ → List ℕ → Selected
+abbrev pub best : Shape → ℕ → List ℕ → Option Candidate
 best shape v s = best_below shape v s shape.limit
 
-abbrev pub best_by_records : Shape → ℕ → List ℕ → Selected
+abbrev pub best_by_records : Shape → ℕ → List ℕ → Option Candidate
 best_by_records shape v s = best_among (candidate_by_record shape v s) shape v s shape.limit
 
 -- Distributor and interface are on: bit 0 of each CTLR
@@ -66,9 +64,9 @@ abbrev pub both_on : Shape → ℕ → List ℕ → Bool
 both_on shape v s = enabled_at shape s && enable_bit (interface_at shape v Control s)
 
 -- "HPPIR gives the best, without an SGI's source; 1023 if there is none or Distributor or interface is off"
-abbrev pub selected_number : Selected → ℕ
-selected_number Nothing = 1023
-selected_number (Best c) = c.intid.0
+abbrev pub selected_number : Option Candidate → ℕ
+selected_number None = 1023
+selected_number (Some c) = c.intid.0
 
 unfoldable pub highest_pending : Shape → ℕ → List ℕ → ℕ
 highest_pending shape v s = cond (both_on shape v s) (selected_number (best shape v s)) 1023

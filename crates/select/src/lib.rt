@@ -6,7 +6,7 @@ ghost use Rattle.state.specs.Layout.{spi_start, Room};
 ghost use Rattle.state.specs.declared.layout.InterfaceValue.TheVariants.{PriorityMask};
 ghost use Rattle.state.specs.Words.{interface_at};
 ghost use Rattle.select.specs.Select.{best, both_on, selected_number, highest_pending, Looked};
-ghost use Rattle.select.specs.Keys.{private_bits, spi_bits, test_of, ready_word, selected_by, least, with_word, least_key, every_number, bit_is_set, with_spi, with_summary_word, key_of, LowEnough, urgent, Sought, NumbersAt, KeyRun};
+ghost use Rattle.select.specs.Keys.{private_bits, spi_bits, test_of, ready_word, selected_by, with_word, least_key, every_number, bit_is_set, with_spi, with_summary_word, key_of, LowEnough, urgent, Sought, NumbersAt, KeyRun};
 
 use interrupt::{GicVcpuId, IntId, Priority};
 use state::layout::record_place;
@@ -18,12 +18,6 @@ use state::{InterfaceValue, Shape};
 pub struct Candidate {
     pub intid: IntId,
     pub priority: Priority,
-}
-
-#[derive(Clone, Copy)]
-pub enum Selected {
-    Best(Candidate),
-    Nothing,
 }
 
 // Bits of a record's word, which the loop tests as it stands: several flags by one comparison.
@@ -69,19 +63,13 @@ fn is_ready(word: u32, test: WordTest) -> bool
     (word & test.care) == test.wanted
 }
 
-fn least(a: u32, b: u32) -> u32
-    ensures { result ≡ least a b }
-{
-    if a < b { a } else { b }
-}
-
 // A key is the priority with the number below it: the least is the smallest priority's, then the smallest number's.
 fn with_record(word: u32, intid: IntId, test: WordTest, so_far: u32) -> u32
     requires { intid.0 < 1020 }
     ensures { result ≡ with_word test intid.0 word so_far }
 {
     if is_ready(word, test) {
-        least(1024 * (word / 256 % 256) + intid.0, so_far)
+        so_far.min(1024 * (word / 256 % 256) + intid.0)
     } else {
         so_far
     }
@@ -94,10 +82,8 @@ fn least_key(words: &[u32], offset: usize, first: u32, end: u32, test: WordTest,
     ensures { result ≡ least_key every_number test offset first words.now start (end - first) }
 {
     let mut key = start;
-    let mut n = first;
-    while n < end {
+    for n in first..end {
         key = with_record(words[offset + n as usize], IntId(n), test, key);
-        n += 1;
     }
     key
 }
@@ -109,7 +95,7 @@ fn with_spi(word: u32, intid: IntId, test: WordTest, so_far: u32) -> u32
 {
     let key = 1024 * (word / 256 % 256) + intid.0;
     let offered = if is_ready(word, test) { key } else { so_far };
-    least(offered, so_far)
+    offered.min(so_far)
 }
 
 // A bit of the summary may be of no number.
@@ -147,6 +133,7 @@ fn with_summary_word(
 {
     let mut key = start;
     let mut left = bits;
+    // No index runs here: each turn takes off the lowest set bit.
     while left != 0 {
         let intid = IntId(first + u32::trailing_zeros(left));
         key = with_number(words, offset, limit, intid, test, key);
@@ -162,33 +149,30 @@ fn least_ready(words: &[u32], shape: Shape, test: WordTest, start: u32, enough: 
 {
     let offset = shape.spi_start() - 32;
     let summary = shape.spi_end();
-    let many = shape.summary_words();
     let mut key = start;
-    let mut g = 0;
-    while g < many {
+    for g in 0..shape.summary_words() {
         if key < enough {
             return key;
         }
         let bits = words[summary + g];
         let first = 32 + 32 * g as u32;
         key = with_summary_word(words, offset, shape.limit, first, bits, test, key);
-        g += 1;
     }
     key
 }
 
 // `none` is the start of the run: where no key is below it, there is no candidate.
-fn of_key(key: u32, none: u32) -> Selected
+fn of_key(key: u32, none: u32) -> Option<Candidate>
     requires { none < 1024 * 256 }
     ensures { result ≡ selected_by none key }
 {
     if key < none {
-        Selected::Best(Candidate {
+        Some(Candidate {
             intid: IntId(key % 1024),
             priority: Priority::new((key / 1024) as u8),
         })
     } else {
-        Selected::Nothing
+        None
     }
 }
 
@@ -210,7 +194,7 @@ fn best_key(words: &[u32], shape: Shape, vcpu: GicVcpuId, none: u32, enough: u32
     least_ready(words, shape, spi_test(vcpu), private, enough)
 }
 
-pub fn highest_pending(words: &[u32], shape: Shape, vcpu: GicVcpuId) -> Selected
+pub fn highest_pending(words: &[u32], shape: Shape, vcpu: GicVcpuId) -> Option<Candidate>
     requires { Looked shape vcpu.0 words.now }
     ensures { result ≡ best shape vcpu.0 words.now }
 {
@@ -226,7 +210,7 @@ pub fn some_below(words: &[u32], shape: Shape, vcpu: GicVcpuId, bound: u32) -> b
 {
     let mask = v2_priority_mask(words, shape, vcpu);
     let none = 1024 * mask.0 as u32;
-    let enough = least(none, 1024 * bound);
+    let enough = none.min(1024 * bound);
     best_key(words, shape, vcpu, none, enough) < enough
 }
 
@@ -238,15 +222,10 @@ pub fn both_enabled(words: &[u32], shape: Shape, vcpu: GicVcpuId) -> bool
     distributor_enabled(words, shape) & interface
 }
 
-impl Selected {
-    fn number(self) -> IntId
-        ensures { result.0 ≡ selected_number self }
-    {
-        match self {
-            Selected::Best(candidate) => candidate.intid,
-            Selected::Nothing => IntId::SPURIOUS,
-        }
-    }
+fn selected_number(selected: Option<Candidate>) -> IntId
+    ensures { result.0 ≡ selected_number selected }
+{
+    selected.map_or(IntId::SPURIOUS, |candidate| candidate.intid)
 }
 
 // HPPIR.
@@ -255,7 +234,7 @@ pub fn highest_pending_v2(words: &[u32], shape: Shape, vcpu: GicVcpuId) -> IntId
     ensures { result.0 ≡ highest_pending shape vcpu.0 words.now }
 {
     if both_enabled(words, shape, vcpu) {
-        highest_pending(words, shape, vcpu).number()
+        selected_number(highest_pending(words, shape, vcpu))
     } else {
         IntId::SPURIOUS
     }

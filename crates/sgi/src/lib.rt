@@ -125,11 +125,8 @@ pub fn send_sgi(words: &mut [u32], shape: Shape, source: GicVcpuId, sgi: IntId, 
     requires { HoldsSlot shape (Sources source.0 sgi.0) words.old }
     ensures { words.new ≡ send_sgi shape source.0 sgi.0 target words.old }
 {
-    let count = shape.count;
-    let mut v = 0;
-    while v < count {
+    for v in 0..shape.count {
         send_to(words, shape, target, source, sgi, GicVcpuId(v));
-        v += 1;
     }
 }
 

@@ -1,8 +1,8 @@
 -- What is said of each kind of slot and of each interface value, here alone: where it stands, that it stands alone there, and that it starts as
 -- it is written. How large a state is. Assumes nothing.
+use Rattle.std.specs.Prelude.{None, Some}
 use mathlib.Core.Path.{◌≡◌, refl, sym, ap, ◌∙◌}
 use mathlib.Core.Bool.{Bool, true, false, cond, and-false, true≢false}
-use mathlib.Core.Option.{none, some}
 use Prim.Native.Nat.{ℕ, zero, suc, ◌+◌, ◌*◌, ◌-◌, ◌/◌, ◌%◌, ◌≤◌, ◌<◌}
 use native.Mathlib.Omega.{arith}
 use lib.Dec.{eqb, leb, ltb}
@@ -158,7 +158,7 @@ vcpu_at shape v r b h = go (ltb r sources_start) (ltb r private_start) refl refl
 tail_at : (shape : Shape) (k : ℕ) → Limits shape → stack_start shape ≤ k → k < size shape → At shape k (tail_slot shape k)
 tail_at shape k l past h = record { exists = (omega arith, omega arith); stands = omega arith }
 
-no_spi : (n : ℕ) → none ≡ some n → ⊥
+no_spi : (n : ℕ) → None ≡ Some n → ⊥
 no_spi n e = let z : ◌≡◌ {A = ℕ} 0 1 = cc in omega arith
 
 -- the summary stands between the SPIs and the stacks, and no slot in it
@@ -182,7 +182,7 @@ off_summary shape (Spi n) e = before_summary shape _ (omega arith)
 off_summary shape (Stack v i) e = after_summary shape _ (omega arith)
 
 -- the slot of an SPI's record
-pub spi_slot : (t : Slot) (n : ℕ) → spi_of t ≡ some n → t ≡ Spi n
+pub spi_slot : (t : Slot) (n : ℕ) → spi_of t ≡ Some n → t ≡ Spi n
 spi_slot Count n e = absurd (no_spi n e)
 spi_slot Limit n e = absurd (no_spi n e)
 spi_slot DistributorControl n e = absurd (no_spi n e)

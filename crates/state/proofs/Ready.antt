@@ -1,9 +1,9 @@
 -- What writing a slot does to the bits of the SPIs: with a record its own is set anew, and every other stays. So the summary stays exact whatever is
 -- written, and two slots may be written in either order. Assumes nothing.
+use Rattle.std.specs.Prelude.{Option, None, Some}
 use mathlib.Core.Path.{◌≡◌, refl, sym, ap, ◌∙◌, subst}
 use mathlib.Core.Bool.{Bool, true, true≢false}
 use mathlib.Core.List.{List}
-use mathlib.Core.Option.{Option, none, some}
 use Prim.Native.Nat.{ℕ, ◌≤◌, ◌<◌, ◌^◌}
 use native.Mathlib.Omega.{arith}
 use lib.ListN.{length, get_or, set, length-set}
@@ -43,8 +43,8 @@ module _ (shape : Shape) (s : List ℕ) (h : Room shape s) where
   put_ready_other n t w en et apart = go (spi_of t) refl (spi_there shape t et) ∙ bit_stays n t w en et
     where
       go : (o : Option ℕ) → spi_of t ≡ o → SpiThere shape o → ready_bit shape n (summed shape o w (set s (place shape t) w)) ≡ ready_bit shape n (set s (place shape t) w)
-      go none e there = refl
-      go (some m) e there =
+      go None e there = refl
+      go (Some m) e there =
           ready_other shape m (is_ready (record_of w)) (set s (place shape t) w) there (written_long t w) n en (λ p. apart (ap Spi p ∙ sym (spi_slot t m e)))
 
   -- so a bit that says what its record does goes on saying so, whatever is written; and with the record it is made to
@@ -68,8 +68,8 @@ module _ (shape : Shape) (s : List ℕ) (h : Room shape s) where
       stays = rw (get_or-set_other s (place shape t) k w 0 (in_summary_apart t k et on)) b
 
       go : (o : Option ℕ) → SpiThere shape o → get_or (summed shape o w (set s (place shape t) w)) k 0 < 2 ^ spis_in shape k
-      go none there = stays
-      go (some n) there = ready_spared shape n (is_ready (record_of w)) (set s (place shape t) w) there (written_long t w) k stays
+      go None there = stays
+      go (Some n) there = ready_spared shape n (is_ready (record_of w)) (set s (place shape t) w) there (written_long t w) k stays
 
   -- the later of two counts, and at two slots the order does not
   pub put_put : (t : Slot) (w x : ℕ) → Exists shape t → put shape t x (put shape t w s) ≡ put shape t x s
@@ -79,8 +79,8 @@ module _ (shape : Shape) (s : List ℕ) (h : Room shape s) where
       k = place shape t
 
       again : (o : Option ℕ) → SpiThere shape o → summed shape o x (summed shape o w (set s k x)) ≡ summed shape o x (set s k x)
-      again none there = refl
-      again (some n) there = ready_again shape n (is_ready (record_of w)) (set s k x) there (written_long t x) (is_ready (record_of x))
+      again None there = refl
+      again (Some n) there = ready_again shape n (is_ready (record_of w)) (set s k x) there (written_long t x) (is_ready (record_of x))
 
       go : (o : Option ℕ) → SpiThere shape o → summed shape o x (set (summed shape o w (set s k w)) k x) ≡ summed shape o x (set s k x)
       go o there =
@@ -103,9 +103,9 @@ module _ (shape : Shape) (s : List ℕ) (h : Room shape s) where
       long = rw (length-set (set s k w) l x) (written_long t w)
 
       bits : (o p : Option ℕ) → spi_of t ≡ o → spi_of u ≡ p → SpiThere shape o → SpiThere shape p → summed shape p x (summed shape o w both) ≡ summed shape o w (summed shape p x both)
-      bits none p e f a b = refl
-      bits (some n) none e f a b = refl
-      bits (some n) (some m) e f a b =
+      bits None p e f a b = refl
+      bits (Some n) None e f a b = refl
+      bits (Some n) (Some m) e f a b =
           ready_comm shape m n (is_ready (record_of x)) (is_ready (record_of w)) both b a (λ q. apart (spi_slot t n e ∙ ap Spi (sym q) ∙ sym (spi_slot u m f))) long
 
       go : (o p : Option ℕ) → spi_of t ≡ o → spi_of u ≡ p → SpiThere shape o → SpiThere shape p

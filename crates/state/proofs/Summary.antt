@@ -1,8 +1,8 @@
 -- The summary's words: what a record's bit does to them, and that nothing else does. Assumes nothing.
+use Rattle.std.specs.Prelude.{Option, None, Some}
 use mathlib.Core.Path.{◌≡◌, refl, sym, ap, ◌∙◌}
 use mathlib.Core.Bool.{Bool, true, false, true≢false}
 use mathlib.Core.List.{List}
-use mathlib.Core.Option.{Option, none, some}
 use Prim.Native.Nat.{ℕ, zero, suc, ◌+◌, ◌-◌, ◌%◌, ◌^◌, ◌≤◌, ◌<◌}
 use native.Mathlib.Nat.{not-suc-le-zero}
 use native.Mathlib.Omega.{arith}
@@ -21,8 +21,8 @@ use Rattle.state.proofs.WordBits.{bit_same, bit_other, bit_again, bit_fits, bit_
 
 -- the SPI of a slot that exists, if it has one, exists
 abbrev pub SpiThere : Shape → Option ℕ → Type 0
-SpiThere shape none = Unit
-SpiThere shape (some n) = Exists shape (Spi n)
+SpiThere shape None = Unit
+SpiThere shape (Some n) = Exists shape (Spi n)
 
 pub spi_there : (shape : Shape) (t : Slot) → Exists shape t → SpiThere shape (spi_of t)
 spi_there shape Count e = tt
@@ -44,27 +44,27 @@ module _ (shape : Shape) where
 
   pub summed_length : (o : Option ℕ) (w : ℕ) (s : List ℕ) → length (summed shape o w s) ≡ length s
   unfolding with_ready_bit
-  summed_length none w s = refl
-  summed_length (some n) w s = length-set s (summary_place shape n) (with_bit (n % 32) (is_ready (record_of w)) (summary_at shape n s))
+  summed_length None w s = refl
+  summed_length (Some n) w s = length-set s (summary_place shape n) (with_bit (n % 32) (is_ready (record_of w)) (summary_at shape n s))
 
   -- words that are not in the summary stay
   pub summed_at : (o : Option ℕ) (w : ℕ) (s : List ℕ) (k : ℕ) → SpiThere shape o → in_summary shape k ≡ false → get_or (summed shape o w s) k 0 ≡ get_or s k 0
   unfolding with_ready_bit
-  summed_at none w s k e off = refl
-  summed_at (some n) w s k e off = get_or-set_other s (summary_place shape n) k (with_bit (n % 32) (is_ready (record_of w)) (summary_at shape n s)) 0 (not_there n k e off)
+  summed_at None w s k e off = refl
+  summed_at (Some n) w s k e off = get_or-set_other s (summary_place shape n) k (with_bit (n % 32) (is_ready (record_of w)) (summary_at shape n s)) 0 (not_there n k e off)
 
   pub summed_past : (o : Option ℕ) (w : ℕ) (s : List ℕ) → SpiThere shape o → drop (size shape) (summed shape o w s) ≡ drop (size shape) s
   unfolding with_ready_bit
-  summed_past none w s e = refl
-  summed_past (some n) w s e =
+  summed_past None w s e = refl
+  summed_past (Some n) w s e =
       let in-summary = summary_from shape (summary_place shape n) (bit_in_summary shape n e) in
       drop-set-lt (size shape) s (summary_place shape n) (with_bit (n % 32) (is_ready (record_of w)) (summary_at shape n s)) (omega arith)
 
   -- a word written elsewhere, before or after
   pub summed_set : (o : Option ℕ) (w : ℕ) (s : List ℕ) (k x : ℕ) → SpiThere shape o → in_summary shape k ≡ false → summed shape o w (set s k x) ≡ set (summed shape o w s) k x
   unfolding with_ready_bit
-  summed_set none w s k x e off = refl
-  summed_set (some n) w s k x e off =
+  summed_set None w s k x e off = refl
+  summed_set (Some n) w s k x e off =
       ap (λ (y : ℕ). set (set s k x) (summary_place shape n) (with_bit (n % 32) (is_ready (record_of w)) y)) (get_or-set_other s k (summary_place shape n) x 0 (λ p. not_there n k e off (sym p)))
       ∙ set_comm s k (summary_place shape n) x (with_bit (n % 32) (is_ready (record_of w)) (summary_at shape n s)) (not_there n k e off)
 

@@ -1,4 +1,6 @@
 -- Tests taken together. Assumes nothing.
+use Rattle.std.specs.Prelude.{cond, Some, None}
+use Rattle.std.specs.Bool.{then_some}
 use mathlib.Core.Path.{◌≡◌, refl, sym, ◌∙◌}
 use mathlib.Core.Bool.{Bool, true, false, not, ◌&&◌, true≢false, false≢true}
 use Prim.Native.Nat.{ℕ, zero, suc, ◌≤◌, ◌<◌}
@@ -43,3 +45,8 @@ pub every_true : (f : ℕ → Bool) (n : ℕ) → ((i : ℕ) → i < n → f i �
 unfolding every_below
 every_true f zero h = refl
 every_true f (suc n) h = simp (every_true f n (λ i b. h i (omega arith)), h n (omega arith))
+
+-- a value where a test passes, by cases of the test
+pub then_some_cond : {T : Type 0} (b : Bool) (x : T) → then_some b x ≡ cond b (Some x) None
+then_some_cond true x = refl
+then_some_cond false x = refl

@@ -2,8 +2,7 @@
 -- numbers", 6), the Distributor's CTLR, for each vCPU its interface values, the source bits of its SGIs and its private records, the SPI
 -- records, and the stacks of what is under service; and document 02's, Five: the summary of the ready. Where each word stands is the team's to say ("its size for a count and limit is the
 -- team's"), and is said here alone: other definitions name a slot. docs/STATE.md has the picture.
-use Rattle.std.specs.Prelude.{List, ◌≡◌, Bool, false, cond, ◌&&◌, ◌||◌, ℕ, zero, suc, ◌+◌, ◌*◌, ◌-◌, ◌/◌, ◌%◌, ◌≤◌, ◌<◌, eqb, leb, ltb, length}
-use Rattle.std.proofs.Math.Option.{Option, none, some}
+use Rattle.std.specs.Prelude.{List, ◌≡◌, Bool, false, cond, ◌&&◌, ◌||◌, ℕ, zero, suc, ◌+◌, ◌*◌, ◌-◌, ◌/◌, ◌%◌, ◌≤◌, ◌<◌, eqb, leb, ltb, length, Option, None, Some}
 use Rattle.state.specs.declared.layout.Shape.{Shape}
 use Rattle.state.specs.declared.layout.InterfaceValue.{InterfaceValue}
 use Rattle.state.specs.declared.layout.InterfaceValue.TheVariants.{Control, PriorityMask, BinaryPoint, Depth}
@@ -139,14 +138,14 @@ kind_of (Spi n) = 5
 kind_of (Stack v i) = 6
 
 abbrev pub vcpu_of : Slot → Option ℕ
-vcpu_of Count = none
-vcpu_of Limit = none
-vcpu_of DistributorControl = none
-vcpu_of (Interface v k) = some v
-vcpu_of (Sources v n) = some v
-vcpu_of (Private v n) = some v
-vcpu_of (Spi n) = none
-vcpu_of (Stack v i) = some v
+vcpu_of Count = None
+vcpu_of Limit = None
+vcpu_of DistributorControl = None
+vcpu_of (Interface v k) = Some v
+vcpu_of (Sources v n) = Some v
+vcpu_of (Private v n) = Some v
+vcpu_of (Spi n) = None
+vcpu_of (Stack v i) = Some v
 
 abbrev pub number_of : Slot → ℕ
 number_of Count = 0
@@ -160,14 +159,14 @@ number_of (Stack v i) = i
 
 -- the SPI whose record it is
 abbrev pub spi_of : Slot → Option ℕ
-spi_of Count = none
-spi_of Limit = none
-spi_of DistributorControl = none
-spi_of (Interface v k) = none
-spi_of (Sources v n) = none
-spi_of (Private v n) = none
-spi_of (Spi n) = some n
-spi_of (Stack v i) = none
+spi_of Count = None
+spi_of Limit = None
+spi_of DistributorControl = None
+spi_of (Interface v k) = None
+spi_of (Sources v n) = None
+spi_of (Private v n) = None
+spi_of (Spi n) = Some n
+spi_of (Stack v i) = None
 
 -- other definitions ask by these, so that a new kind of slot is none of theirs
 abbrev pub same_kind : Slot → Slot → Bool
@@ -190,8 +189,8 @@ on_stack t = is_depth t || is_entry t
 
 -- it is a vCPU's, and of that one something holds
 abbrev pub of_vcpu : Option ℕ → (ℕ → Bool) → Bool
-of_vcpu none holds = false
-of_vcpu (some v) holds = holds v
+of_vcpu None holds = false
+of_vcpu (Some v) holds = holds v
 
 -- "1 to 8 vCPUs; the SPI limit is 32 to 1020"
 pub record Limits (shape : Shape) : Type 0 where

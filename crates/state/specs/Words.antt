@@ -1,8 +1,7 @@
 -- What the words of a state mean, slot by slot: "any stored bits decode to exactly one record, source set, stack entry or register value"
 -- (document 01, "Refusal numbers"). A word may have bits that count for nothing; what is written has none (`Canonical`), so that equal
 -- states are equal words. Beside the slots stands the summary of the ready, which says again what the records say (`Exact`).
-use Rattle.std.specs.Prelude.{◌≡◌, Bool, true, cond, List, ℕ, ◌+◌, ◌*◌, ◌-◌, ◌/◌, ◌%◌, ◌^◌, ◌≤◌, ◌<◌, min, eqb, get_or, set}
-use Rattle.std.proofs.Math.Option.{Option, none, some}
+use Rattle.std.specs.Prelude.{◌≡◌, Bool, true, cond, List, ℕ, ◌+◌, ◌*◌, ◌-◌, ◌/◌, ◌%◌, ◌^◌, ◌≤◌, ◌<◌, min, eqb, get_or, set, Option, None, Some}
 use Rattle.interrupt.specs.Types.{is_private_id, priority_of}
 use Rattle.interrupt.specs.Record.{starting_record, is_ready}
 use Rattle.interrupt.specs.declared.record.InterruptRecord.{InterruptRecord}
@@ -37,8 +36,8 @@ without_summary shape s = up_to (λ g r. set r (summary_start shape + g) 0) (sum
 
 -- "each transition called on a record sets its bit anew": the word w is a record of this SPI, if of one
 abbrev pub summed : Shape → Option ℕ → ℕ → List ℕ → List ℕ
-summed shape none w s = s
-summed shape (some n) w s = with_ready_bit shape n (is_ready (record_of w)) s
+summed shape None w s = s
+summed shape (Some n) w s = with_ready_bit shape n (is_ready (record_of w)) s
 
 -- a word written at a slot, and with an SPI's record its bit: there is no other way to write one
 abbrev pub put : Shape → Slot → ℕ → List ℕ → List ℕ

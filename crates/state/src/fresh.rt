@@ -69,9 +69,7 @@ pub fn fill(words: &mut [u32], shape: Shape)
     ensures { words.new ≡ fresh shape words.old }
 {
     let size = shape.size();
-    let mut i = 0;
-    while i < size {
+    for i in 0..size {
         words[i] = word_at(shape, i);
-        i += 1;
     }
 }

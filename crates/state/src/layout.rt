@@ -43,22 +43,17 @@ pub struct Shape {
 // The words that a CPU interface has beside its stack. `Depth` is how many entries the stack holds.
 #[derive(Clone, Copy)]
 pub enum InterfaceValue {
-    Control,
-    PriorityMask,
-    BinaryPoint,
-    Depth,
+    Control = 0,
+    PriorityMask = 1,
+    BinaryPoint = 2,
+    Depth = 3,
 }
 
 impl InterfaceValue {
     fn number(self) -> usize
         ensures { (result ≡ interface_number self) × (result < sources_start) }
     {
-        match self {
-            InterfaceValue::Control => 0,
-            InterfaceValue::PriorityMask => 1,
-            InterfaceValue::BinaryPoint => 2,
-            InterfaceValue::Depth => 3,
-        }
+        self as usize
     }
 }
 

@@ -8,37 +8,15 @@ use crate::layout::{COUNT, InterfaceValue, LIMIT, STACK_CAPACITY, Shape};
 use crate::words::interface_value;
 use interrupt::GicVcpuId;
 
-// A count and a limit, in the limits or not.
-#[derive(Clone, Copy)]
-pub enum Limited {
-    Within(Shape),
-    Outside,
-}
-
-// What lent words are.
-#[derive(Clone, Copy)]
-pub enum Lent {
-    Sound(Shape),
-    Broken,
-}
-
+// A count and a limit, where they are in the limits.
 #[tactic(auto, unfolding(crate::specs::Lent::limited))]
-pub fn validate_limits(count: u64, limit: u64) -> Limited
+pub fn validate_limits(count: u64, limit: u64) -> Option<Shape>
     ensures { result ≡ limited count limit }
 {
-    if count < 1 {
-        return Limited::Outside;
+    if !(1..=8).contains(&count) || !(32..=1020).contains(&limit) {
+        return None;
     }
-    if 8 < count {
-        return Limited::Outside;
-    }
-    if limit < 32 {
-        return Limited::Outside;
-    }
-    if 1020 < limit {
-        return Limited::Outside;
-    }
-    Limited::Within(Shape {
+    Some(Shape {
         count: count as usize,
         limit: limit as u32,
     })
@@ -52,42 +30,35 @@ pub fn put_shape(words: &mut [u32], shape: Shape)
     words[LIMIT] = shape.limit;
 }
 
+#[tactic(auto, unfolding(crate::specs::Loop::every_below))]
 fn depths_fit(words: &[u32], shape: Shape) -> bool
     requires { Room shape words.now }
     ensures { result ≡ every_below (depth_fits shape words.now) shape.count }
 {
-    let count = shape.count;
-    let mut v = 0;
-    while v < count {
+    for v in 0..shape.count {
         if interface_value(words, shape, GicVcpuId(v), InterfaceValue::Depth) > STACK_CAPACITY {
             return false;
         }
-        v += 1;
     }
     true
 }
 
-fn stored_shape(words: &[u32]) -> Limited
+fn stored_shape(words: &[u32]) -> Option<Shape>
     ensures { result ≡ stored_shape words.now }
 {
-    if words.len() < 2 {
-        return Limited::Outside;
-    }
-    validate_limits(words[COUNT] as u64, words[LIMIT] as u64)
+    let [count, limit, ..] = words else {
+        return None;
+    };
+    validate_limits(u64::from(*count), u64::from(*limit))
 }
 
-pub fn validate_state(words: &[u32]) -> Lent
+// The shape of words that are a state.
+pub fn validate_state(words: &[u32]) -> Option<Shape>
     ensures { result ≡ validated words.now }
 {
-    let Limited::Within(shape) = stored_shape(words) else {
-        return Lent::Broken;
-    };
+    let shape = stored_shape(words)?;
     if words.len() < shape.size() {
-        return Lent::Broken;
+        return None;
     }
-    if depths_fit(words, shape) {
-        Lent::Sound(shape)
-    } else {
-        Lent::Broken
-    }
+    depths_fit(words, shape).then_some(shape)
 }

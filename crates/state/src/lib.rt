@@ -8,5 +8,4 @@ pub mod lent;
 pub mod words;
 
 pub use layout::{InterfaceValue, Shape};
-pub use lent::{Lent, Limited};
 pub use words::Entry;

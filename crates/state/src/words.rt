@@ -104,10 +104,8 @@ pub fn clear_summary(words: &mut [u32], shape: Shape)
 {
     let summary = shape.spi_end();
     let many = shape.summary_words();
-    let mut g = 0;
-    while g < many {
+    for g in 0..many {
         clear_word(words, summary + g);
-        g += 1;
     }
 }
 
@@ -205,6 +203,7 @@ pub fn distributor_enabled(words: &[u32], shape: Shape) -> bool
     distributor_control(words, shape) % 2 == 1
 }
 
+// No From: most words are no entry.
 fn entry_of(word: u32) -> Entry
     ensures { result ≡ entry_of word }
 {

@@ -1,4 +1,5 @@
 -- What the calls of the stories come to in a controller: a ring, an acknowledge, an end, a pulse, a message. Assumes nothing.
+use Rattle.std.specs.Prelude.{Option, Some, None}
 use mathlib.Core.Path.{◌≡◌, refl, sym, ap, ◌∙◌}
 use mathlib.Core.Bool.{true, false, false≢true}
 use mathlib.Core.List.{List}
@@ -6,7 +7,6 @@ use Prim.Native.Nat.{ℕ, ◌%◌, ◌^◌, ◌≤◌, ◌<◌}
 use native.Mathlib.Omega.{arith}
 use lib.Dec.{ltb}
 use borrow.Author.Tests.{lt-ltb, le-ltb, eq-eqb}
-use Rattle.interrupt.specs.declared.types.DecodedIntId.TheVariants.{Valid}
 use Rattle.interrupt.specs.Record as transition
 use Rattle.interrupt.specs.Types.{decoded}
 use Rattle.register.specs.declared.frame.AccessWidth.TheVariants.{Dword}
@@ -20,8 +20,6 @@ use Rattle.state.specs.Words.{word_at, put, RecordThere, enabled_at, changed}
 use Rattle.sgi.specs.declared.SgiTarget.{SgiTarget}
 use Rattle.sgi.specs.declared.SgiTarget.TheVariants.{Mask, AllExceptSelf, SelfOnly, Nobody}
 use Rattle.sgi.specs.Sgi.{sgi_target, includes, write_sgir}
-use Rattle.acknowledge.specs.declared.Read.{Read}
-use Rattle.acknowledge.specs.declared.Read.TheVariants.{Value, StackFull}
 use Rattle.acknowledge.specs.Acknowledge as acknowledge-of
 use Rattle.end.specs.End as end_of_lem
 use Rattle.places.specs.Places.{names}
@@ -48,7 +46,7 @@ named AllExceptSelf v t e = refl
 named SelfOnly v t e = refl
 named Nobody v t e = absurd (false≢true e)
 
-decoded_valid : (n : ℕ) → n < 1020 → decoded n ≡ Valid (record { 0 = n })
+decoded_valid : (n : ℕ) → n < 1020 → decoded n ≡ Some (record { 0 = n })
 unfolding decoded
 decoded_valid n below = simp (lt-ltb n 1020 below)
 
@@ -65,7 +63,7 @@ module _ (shape : Shape) (s : List ℕ) (h : Controls shape s) (v : ℕ) where
     decodes : ltb (n % 2 ^ 32 % 1024) 1020 ≡ true
     decodes = rw low (lt-ltb n 1020 below)
 
-    number : end_of_lem.decoded_eoi (n % 2 ^ 32) ≡ Valid (record { 0 = n })
+    number : end_of_lem.decoded_eoi (n % 2 ^ 32) ≡ Some (record { 0 = n })
     number = ap decoded low ∙ decoded_valid n below
 
     pub end_call : called (eoir_write v n) s ≡ went shape (end_of_lem.end_retired shape v n s) s (end_of_lem.ended shape v n s)
@@ -86,9 +84,9 @@ module _ (shape : Shape) (s : List ℕ) (h : Controls shape s) (v : ℕ) where
   pub asleep_quiet : v < shape.count → (called (iar_read v) s).value ≡ 1023 → is_spurious (acknowledge-of.acknowledge shape v s) ≡ true
   asleep_quiet exists e = go (acknowledge-of.acknowledge shape v s) (rw (acknowledge_call exists) at e)
     where
-      go : (a : Read) → (read_answer a s (acknowledge-of.acknowledged shape v s)).value ≡ 1023 → is_spurious a ≡ true
-      go (Value x) p = eq-eqb x 1023 p
-      go StackFull p = absurd (omega (arith, p))
+      go : (a : Option ℕ) → (read_answer a s (acknowledge-of.acknowledged shape v s)).value ≡ 1023 → is_spurious a ≡ true
+      go (Some x) p = eq-eqb x 1023 p
+      go None p = absurd (omega (arith, p))
 
 -- what pulses a PPI or SPI, and what it comes to: an SPI is the same whichever vCPU is named
 module _ (shape : Shape) (v n : ℕ) where

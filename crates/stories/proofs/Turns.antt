@@ -1,4 +1,5 @@
 -- An interrupt whose turn it is at a vCPU is what an acknowledge hands out; a vCPU that has one that it can take is not quiet. Assumes nothing.
+use Rattle.std.specs.Prelude.{Option, Some, None}
 use mathlib.Core.Path.{◌≡◌, refl, sym, ap, ◌∙◌}
 use mathlib.Core.Bool.{Bool, true, false, ◌&&◌, ◌||◌, true≢false, false≢true}
 use mathlib.Core.List.{List}
@@ -15,8 +16,6 @@ use Rattle.state.specs.Layout.{stack_capacity}
 use Rattle.state.specs.declared.layout.Shape.{Shape}
 use Rattle.state.specs.Words.{record_at}
 use Rattle.select.specs.declared.Candidate.{Candidate}
-use Rattle.select.specs.declared.Selected.{Selected}
-use Rattle.select.specs.declared.Selected.TheVariants.{Best, Nothing}
 use Rattle.select.specs.Select.{candidate, candidate_by_record, candidate_for, both_on, IsBest}
 use Rattle.select.proofs.Agree.{candidates_agree, candidate_idle}
 use Rattle.select.proofs.Meaning.{best_is, is_best}
@@ -63,9 +62,9 @@ module _ (shape : Shape) (v n : ℕ) (s : List ℕ) (h : Controls shape s) (exis
   unfolding ready
   candidate_number = ready_number shape v s h.lawful.in_range.state.limits ∙ simp (is_ready_lem, lt-ltb (depth_at shape v s) stack_capacity (room (offer shape v s) refl))
     where
-      room : (b : Selected) → offer shape v s ≡ b → depth_at shape v s < stack_capacity
-      room Nothing p = absurd (true≢false (sym is_ready_lem ∙ ap is_some p))
-      room (Best e) p = offer_room shape v s h.lawful.orderly exists e p
+      room : (b : Option Candidate) → offer shape v s ≡ b → depth_at shape v s < stack_capacity
+      room None p = absurd (true≢false (sym is_ready_lem ∙ ap is_some p))
+      room (Some e) p = offer_room shape v s h.lawful.orderly exists e p
 
   -- and if nothing goes before it, it is
   module _ (none : NoneAhead shape v n s) where
@@ -82,7 +81,7 @@ module _ (shape : Shape) (v n : ℕ) (s : List ℕ) (h : Controls shape s) (exis
       first = λ m b c e. ltb-false m n (simp (eq-eqb (priority m) (priority n) e) at (right_false (ltb (priority m) (priority n)) (eqb (priority m) (priority n) && ltb m n) (none m b c)));
     }
 
-    offered : offer shape v s ≡ Best it
+    offered : offer shape v s ≡ Some it
     offered = is_offer shape v s it (record { on = on; best_one = is_best shape v s it foremost; preempting_one = ahead })
 
     pub candidate_move : Giving shape v it s
@@ -121,9 +120,9 @@ pub active_waits : (shape : Shape) (v n : ℕ) (s : List ℕ) → Controls shape
 unfolding acknowledge-of.answered
 active_waits shape v n s h exists numbered active source p = go (offer shape v s) refl (rw (acknowledge_call shape s h v exists) at p)
   where
-    go : (b : Selected) → offer shape v s ≡ b → (read_answer (acknowledge-of.answered shape v s b) s (acknowledge-of.acknowledged shape v s)).value ≡ n + 1024 * source → ⊥
-    go Nothing o q = omega (arith, q, numbered)
-    go (Best e) o q =
+    go : (b : Option Candidate) → offer shape v s ≡ b → (read_answer (acknowledge-of.answered shape v s b) s (acknowledge-of.acknowledged shape v s)).value ≡ n + 1024 * source → ⊥
+    go None o q = omega (arith, q, numbered)
+    go (Some e) o q =
         let room = offer_room shape v s h.lawful.orderly exists e o in
         let is = best_is shape v s e (offer_is shape v s e o).best_one in
         let value : e.intid.0 + 1024 * source_of shape v e.intid.0 s ≡ n + 1024 * source = simp (lt-ltb (depth_at shape v s) stack_capacity room) at q in

@@ -3,8 +3,7 @@ use mathlib.Core.Path.{◌≡◌, ap, ◌∙◌}
 use mathlib.Core.List.{List}
 use Prim.Native.Nat.{ℕ, ◌/◌, ◌%◌, ◌^◌, ◌<◌}
 use native.Mathlib.Omega.{arith}
-use Rattle.answer.specs.declared.Answer.{Answer}
-use Rattle.answer.specs.Answer.{Outcome, outcome}
+use Rattle.answer.specs.Answer.{Answer, Outcome, outcome}
 use Rattle.save.specs.Save.{Saved}
 use Rattle.vgic.specs.Packed.{packed_answer, PacksTo, SavesTo}
 

@@ -1,12 +1,8 @@
 -- The C face: an answer as one number of 64 bits, and a width as a number of bytes. include/vgic.h says the same to a C compiler.
-use Rattle.std.specs.Prelude.{◌≡◌, Bool, List, ℕ, ◌+◌, ◌*◌, ◌%◌, ◌^◌}
+use Rattle.std.specs.Prelude.{◌≡◌, Bool, List, ℕ, ◌+◌, ◌*◌, ◌%◌, ◌^◌, Option, Some, None}
 use Rattle.register.specs.declared.frame.AccessWidth.{AccessWidth}
-use Rattle.register.specs.declared.frame.DecodedWidth.{DecodedWidth}
-use Rattle.register.specs.declared.frame.DecodedWidth.TheVariants.{Valid, Reserved}
 use Rattle.register.specs.declared.frame.Refusal.TheVariants.{Width}
 use Rattle.register.specs.Frame.{decoded_width}
-use Rattle.state.specs.declared.lent.Limited.{Limited}
-use Rattle.state.specs.declared.lent.Limited.TheVariants.{Within, Outside}
 use Rattle.state.specs.Layout.{size}
 use Rattle.state.specs.Lent.{limited}
 use Rattle.answer.specs.Answer.{Outcome, refused}
@@ -18,6 +14,7 @@ use Rattle.look.specs.Look.{irq_level, interrupt_word}
 use Rattle.load.specs.Load.{load, shape_stated}
 use Rattle.save.specs.Save.{Saved, save, image_bytes}
 use Rattle.controller.specs.Start.{setup}
+use Rattle.state.specs.declared.layout.Shape.{Shape}
 
 -- bits 0 to 31 the value, 32 to 47 the retired number, 48 to 55 the wake set, 56 to 63 the refusal
 unfoldable pub packed_answer : Outcome → ℕ
@@ -29,9 +26,9 @@ pub record PacksTo (number : ℕ) (s : List ℕ) (o : Outcome) : Type 0 where
   pub state_is : s ≡ o.state
 
 -- "a call can be given no other": a width that is none is refused by 2 before all else
-abbrev pub at_width : DecodedWidth → List ℕ → (AccessWidth → Outcome) → Outcome
-at_width (Valid w) s call = call w
-at_width Reserved s call = refused Width s
+abbrev pub at_width : Option AccessWidth → List ℕ → (AccessWidth → Outcome) → Outcome
+at_width (Some w) s call = call w
+at_width None s call = refused Width s
 
 abbrev pub accessed : ℕ → List ℕ → (AccessWidth → Outcome) → Outcome
 accessed width s call = at_width (decoded_width width) s call
@@ -90,17 +87,17 @@ abbrev pub VgicImageShape : List ℕ → ℕ → List ℕ → Type 0
 VgicImageShape image number after = PacksTo number after (shape_stated image)
 
 -- how many bytes an image takes at most, 0 where count or limit is out of range
-abbrev pub room_of : Limited → ℕ
-room_of Outside = 0
-room_of (Within shape) = image_bytes shape
+abbrev pub room_of : Option Shape → ℕ
+room_of None = 0
+room_of (Some shape) = image_bytes shape
 
 abbrev pub image_room : ℕ → ℕ → ℕ
 image_room count limit = room_of (limited count limit)
 
 -- how many words a state takes, 0 where count or limit is out of range
-abbrev pub size_of : Limited → ℕ
-size_of Outside = 0
-size_of (Within shape) = size shape
+abbrev pub size_of : Option Shape → ℕ
+size_of None = 0
+size_of (Some shape) = size shape
 
 abbrev pub state_words : ℕ → ℕ → ℕ
 state_words count limit = size_of (limited count limit)

@@ -5,11 +5,11 @@ ghost use Rattle.std.specs.Prelude.{◌≡◌, List, ℕ};
 ghost use Rattle.answer.specs.Answer.{outcome};
 ghost use Rattle.vgic.specs.Packed.{packed_answer, state_words, VgicSetup, VgicReadDistributor, VgicWriteDistributor, VgicReadCpuInterface, VgicWriteCpuInterface, VgicSetLevel, VgicPulse, VgicReadV2m, VgicWriteV2m, VgicIrqLevel, VgicInterrupt, VgicSave, VgicLoad, VgicImageShape, image_room};
 
+use answer::{refusal_in, retired_in, value_in, wake_in};
 use controller::Answer;
 use interrupt::GicVcpuId;
-use register::{AccessWidth, DecodedWidth, Refusal};
+use register::{AccessWidth, Refusal};
 use save::image_bytes;
-use state::Limited;
 use state::lent::validate_limits;
 
 // What the lowest bit of each field above the value counts.
@@ -20,13 +20,14 @@ const WAKE: u64 = 0x1_0000_0000_0000;
 const REFUSAL: u64 = 0x100_0000_0000_0000;
 
 // An answer as one number. No shift and no sum leaves its 64 bits.
+#[tactic(auto, unfolding(crate::specs::Packed::packed_answer))]
 fn packed(answer: Answer) -> u64
     ensures { (s : List ℕ) → result ≡ packed_answer (outcome answer s) }
 {
-    let value = answer.value() as u64;
-    let retired = answer.retired() as u64 % 0x1_0000;
-    let wake = answer.wake() as u64;
-    let refusal = answer.refusal() as u64;
+    let value = u64::from(value_in(answer));
+    let retired = u64::from(retired_in(answer)) % 0x1_0000;
+    let wake = u64::from(wake_in(answer));
+    let refusal = u64::from(refusal_in(answer));
     value + RETIRED * retired + WAKE * wake + REFUSAL * refusal
 }
 
@@ -35,8 +36,8 @@ pub extern "C" fn vgic_state_words(count: u64, limit: u64) -> u64
     ensures { result ≡ state_words count limit }
 {
     match validate_limits(count, limit) {
-        Limited::Within(shape) => shape.size() as u64,
-        Limited::Outside => 0,
+        Some(shape) => shape.size() as u64,
+        None => 0,
     }
 }
 
@@ -51,8 +52,8 @@ pub extern "C" fn vgic_setup(words: &mut [u32], count: u64, limit: u64) -> u64
 pub extern "C" fn vgic_read_v2_distributor(words: &[u32], vcpu: u64, offset: u64, width: u64) -> u64
     ensures { VgicReadDistributor vcpu offset width words.now result words.now }
 {
-    let DecodedWidth::Valid(access) = AccessWidth::new(width) else {
-        return packed(Answer::Refused(Refusal::Width));
+    let Some(access) = AccessWidth::new(width) else {
+        return packed(Err(Refusal::Width));
     };
     packed(controller::read_v2_distributor(words, GicVcpuId(vcpu as usize), offset, access))
 }
@@ -67,8 +68,8 @@ pub extern "C" fn vgic_write_v2_distributor(
 ) -> u64
     ensures { VgicWriteDistributor vcpu offset width value words.old result words.new }
 {
-    let DecodedWidth::Valid(access) = AccessWidth::new(width) else {
-        return packed(Answer::Refused(Refusal::Width));
+    let Some(access) = AccessWidth::new(width) else {
+        return packed(Err(Refusal::Width));
     };
     packed(controller::write_v2_distributor(words, GicVcpuId(vcpu as usize), offset, access, value))
 }
@@ -82,8 +83,8 @@ pub extern "C" fn vgic_read_v2_cpu_interface(
 ) -> u64
     ensures { VgicReadCpuInterface vcpu offset width words.old result words.new }
 {
-    let DecodedWidth::Valid(access) = AccessWidth::new(width) else {
-        return packed(Answer::Refused(Refusal::Width));
+    let Some(access) = AccessWidth::new(width) else {
+        return packed(Err(Refusal::Width));
     };
     packed(controller::read_v2_cpu_interface(words, GicVcpuId(vcpu as usize), offset, access))
 }
@@ -98,8 +99,8 @@ pub extern "C" fn vgic_write_v2_cpu_interface(
 ) -> u64
     ensures { VgicWriteCpuInterface vcpu offset width value words.old result words.new }
 {
-    let DecodedWidth::Valid(access) = AccessWidth::new(width) else {
-        return packed(Answer::Refused(Refusal::Width));
+    let Some(access) = AccessWidth::new(width) else {
+        return packed(Err(Refusal::Width));
     };
     packed(controller::write_v2_cpu_interface(
         words,
@@ -134,8 +135,8 @@ pub extern "C" fn vgic_read_v2m(
 ) -> u64
     ensures { VgicReadV2m first count offset width words.now result words.now }
 {
-    let DecodedWidth::Valid(access) = AccessWidth::new(width) else {
-        return packed(Answer::Refused(Refusal::Width));
+    let Some(access) = AccessWidth::new(width) else {
+        return packed(Err(Refusal::Width));
     };
     packed(controller::read_v2m(words, first, count, offset, access))
 }
@@ -151,8 +152,8 @@ pub extern "C" fn vgic_write_v2m(
 ) -> u64
     ensures { VgicWriteV2m first count offset width value words.old result words.new }
 {
-    let DecodedWidth::Valid(access) = AccessWidth::new(width) else {
-        return packed(Answer::Refused(Refusal::Width));
+    let Some(access) = AccessWidth::new(width) else {
+        return packed(Err(Refusal::Width));
     };
     packed(controller::write_v2m(words, first, count, offset, access, value))
 }
@@ -176,8 +177,8 @@ pub extern "C" fn vgic_image_bytes(count: u64, limit: u64) -> u64
     ensures { result ≡ image_room count limit }
 {
     match validate_limits(count, limit) {
-        Limited::Within(shape) => image_bytes(shape) as u64,
-        Limited::Outside => 0,
+        Some(shape) => image_bytes(shape) as u64,
+        None => 0,
     }
 }
 

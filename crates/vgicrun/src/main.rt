@@ -2,25 +2,19 @@
 // that whoever types a line has its answer at once.
 #![tactic(auto)]
 
-ghost use Rattle.std.specs.Prelude.{true, ◌≡◌, ◌≤◌, length};
+ghost use Rattle.std.specs.Prelude.{◌≡◌, ◌≤◌, length, IfOk};
 ghost use Rattle.runner.specs.Runner.{start_words};
 ghost use Rattle.runner.specs.Feeding.{Begun, BytesRun, RestAnswered};
 
 use runner::{KEPT, feed, feed_rest};
 use state::layout::LARGEST_SIZE;
+use std::io;
 use std::io::{Read, Stdin, Stdout};
 
 // Bytes of input that are read at once, and of answers that are written at once.
 const BLOCK: usize = 65536;
 
-// Whether to go on, and how many bytes of a line are kept.
-#[derive(Clone, Copy)]
-struct Turn {
-    more: bool,
-    begun: usize,
-}
-
-// Answers a block that was read.
+// Answers a block that was read, and says how many bytes of a line are kept then.
 fn answer_block(
     output: Stdout,
     words: &mut [u32],
@@ -28,47 +22,27 @@ fn answer_block(
     begun: usize,
     block: &[u8],
     out: &mut [u8],
-) -> Turn
+) -> io::Result<usize>
     requires { (Begun begun line.old) × (30 ≤ length out.old) }
-    ensures { (result.begun ≤ 81) × (result.more ≡ true → BytesRun block.now begun line.old words.old result.begun line.new words.new) }
+    ensures { IfOk result (λ kept. BytesRun block.now begun line.old words.old kept line.new words.new) }
 {
     let mut kept = begun;
     let mut from = 0;
+    // No `for`: a turn goes on from where `feed` stopped.
     while from < block.len() {
         let progress = feed(words, line, kept, block, from, out);
-        let produced = progress.produced;
-        if output.write_all(&out[..produced]).is_ok() {
-            kept = progress.length;
-            from = progress.consumed;
-        } else {
-            return Turn {
-                more: false,
-                begun: 0,
-            };
-        }
+        output.write_all(&out[..progress.produced])?;
+        kept = progress.length;
+        from = progress.consumed;
     }
-    Turn {
-        more: true,
-        begun: kept,
-    }
+    Ok(kept)
 }
 
-fn read_block(
-    mut input: Stdin,
-    output: Stdout,
-    words: &mut [u32],
-    line: &mut [u8],
-    begun: usize,
-    block: &mut [u8],
-    out: &mut [u8],
-) -> Turn
-    requires { (Begun begun line.old) × (30 ≤ length out.old) }
-    ensures { result.begun ≤ 81 }
+// How many bytes were read: 0 where the input ends, or cannot be read.
+fn read_block(mut input: Stdin, block: &mut [u8]) -> usize
+    ensures { result ≤ length block.old }
 {
-    match input.read(block) {
-        Ok(n) if n > 0 => answer_block(output, words, line, begun, &block[..n], out),
-        _ => Turn { more: false, begun },
-    }
+    input.read(block).unwrap_or(0)
 }
 
 // Answers what is left where the input ends.
@@ -80,6 +54,7 @@ fn answer_rest(output: Stdout, words: &mut [u32], line: &[u8], begun: usize, out
     let _ = output.write_all(&out[..end]);
 }
 
+// Where a write fails, it ends and says nothing.
 // A proved loop has to end, and nothing says that the input does: so it counts its turns, up to a number that no run uses up.
 fn run(
     input: Stdin,
@@ -93,11 +68,14 @@ fn run(
 {
     let mut begun = 0;
     for _ in 0..u64::MAX {
-        let turn = read_block(input, output, words, line, begun, block, out);
-        begun = turn.begun;
-        if !turn.more {
+        let n = read_block(input, block);
+        if n == 0 {
             break;
         }
+        let Ok(left) = answer_block(output, words, line, begun, &block[..n], out) else {
+            return;
+        };
+        begun = left;
     }
     answer_rest(output, words, line, begun, out);
 }

@@ -1,5 +1,6 @@
 -- What a call takes is gone after it, whatever it is: if the giving of it, each write and each signal that takes it leave it gone, and none of
 -- these can be refused. Assumes nothing.
+use Rattle.std.specs.Prelude.{Result, Ok, Err}
 use mathlib.Core.Path.{◌≡◌, sym, ◌∙◌}
 use mathlib.Core.Bool.{Bool, true, false, ◌&&◌, true≢false, false≢true}
 use mathlib.Core.List.{List}
@@ -10,8 +11,6 @@ use Rattle.register.specs.declared.frame.AccessWidth.{AccessWidth}
 use Rattle.register.specs.declared.frame.Refusal.{Refusal}
 use Rattle.register.specs.declared.distributor.Place.{Place}
 use Rattle.register.specs.declared.distributor.DistributorAccess.TheVariants as distributor
-use Rattle.register.specs.declared.cpu_interface.CpuInterfaceAccess.{CpuInterfaceAccess}
-use Rattle.register.specs.declared.cpu_interface.CpuInterfaceAccess.TheVariants as interface
 use Rattle.register.specs.declared.cpu_interface.CpuInterfaceRegister.{CpuInterfaceRegister}
 use Rattle.register.specs.Frame.{refusal_number}
 use Rattle.state.specs.declared.layout.Shape.{Shape}
@@ -47,9 +46,9 @@ pub record Goes (shape : Shape) (s : List ℕ) (taker : Taker) (Gone : List ℕ 
   pub signal_found : (v n : ℕ) (signal : Signal) → taker.by v ≡ true → taker.signal n signal ≡ true → RecordThere shape v n × (16 ≤ n)
   pub signal_takes : (v n : ℕ) (signal : Signal) → taker.by v ≡ true → taker.signal n signal ≡ true → Gone (changed shape v n (input.signalled signal) s)
 
-gives_nothing : (these : ℕ → Bool) (a : CpuInterfaceAccess) (r : Refusal) (s : List ℕ) → gives these a (refused r s) ≡ true → ⊥
-gives_nothing these (interface.Refused q) r s e = false≢true e
-gives_nothing these (interface.At register) r s e =
+gives_nothing : (these : ℕ → Bool) (a : Result CpuInterfaceRegister Refusal) (r : Refusal) (s : List ℕ) → gives these a (refused r s) ≡ true → ⊥
+gives_nothing these (Err q) r s e = false≢true e
+gives_nothing these (Ok register) r s e =
     let front = left_true (acknowledging register && eqb (refusal_number r) 0) (these 0) e in
     some_refusal r (eqb-true (refusal_number r) 0 (right_true (acknowledging register) (eqb (refusal_number r) 0) front))
 
@@ -79,9 +78,9 @@ module _ {shape : Shape} {s : List ℕ} {taker : Taker} {Gone : List ℕ → Typ
   Takes d o = taken_by taker d o ≡ true → Gone o.state
 
   acknowledges : (v : ℕ) (register : CpuInterfaceRegister) → acknowledging register ≡ true → (enabled_at shape s ≡ true → v < shape.count)
-      → Takes (Acts (ReadsRegister v (interface.At register))) (read_answer (acknowledge shape v s) s (acknowledged shape v s))
+      → Takes (Acts (ReadsRegister v (Ok register))) (read_answer (acknowledge shape v s) s (acknowledged shape v s))
   acknowledges v register is looked =
-      acknowledge_cases shape s h v looked (Takes (Acts (ReadsRegister v (interface.At register))))
+      acknowledge_cases shape s h v looked (Takes (Acts (ReadsRegister v (Ok register))))
       (λ e. absurd (true≢false (sym (rw is at (by_and v e).1) ∙ g.some)))
       (λ d o e. g.given_takes v d (by_and v e).0 o (rw is at (by_and v e).1))
 

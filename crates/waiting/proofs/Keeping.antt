@@ -1,5 +1,6 @@
 -- What holds of a state until a call takes it, whatever it is: if each move that spares it keeps it, and the moves of each call that does not
 -- take it spare it, then it holds after every history that never takes it. Assumes nothing.
+use Rattle.std.specs.Prelude.{Ok}
 use mathlib.Core.Path.{◌≡◌, sym, ap, ◌∙◌}
 use mathlib.Core.Bool.{Bool, true, false, not, ◌&&◌, true≢false}
 use mathlib.Core.List.{List, [], ◌∷◌}
@@ -11,7 +12,6 @@ use Rattle.register.specs.declared.frame.AccessWidth.{AccessWidth}
 use Rattle.register.specs.declared.cpu_interface.CpuInterfaceRegister.{CpuInterfaceRegister}
 use Rattle.register.specs.declared.distributor.Place.{Place}
 use Rattle.register.specs.declared.distributor.DistributorAccess.TheVariants as distributor
-use Rattle.register.specs.declared.cpu_interface.CpuInterfaceAccess.TheVariants as interface
 use Rattle.register.specs.declared.ranges.Class.{Class}
 use Rattle.register.specs.Ranges.{class_number, class_of}
 use Rattle.register.proofs.Map.{class_of_number}
@@ -124,9 +124,9 @@ module _ {shape : Shape} {holds : List ℕ → Bool} {taker : List ℕ → Taker
     Keeps d o = taken_by (taker s) d o ≡ false → holds o.state ≡ true
 
     acknowledges : (v : ℕ) (register : CpuInterfaceRegister) → acknowledging register ≡ true
-        → (enabled_at shape s ≡ true → v < shape.count) → Keeps (Acts (ReadsRegister v (interface.At register))) (read_answer (acknowledge shape v s) s (acknowledged shape v s))
+        → (enabled_at shape s ≡ true → v < shape.count) → Keeps (Acts (ReadsRegister v (Ok register))) (read_answer (acknowledge shape v s) s (acknowledged shape v s))
     acknowledges v register is looked =
-        acknowledge_cases shape s h v looked (Keeps (Acts (ReadsRegister v (interface.At register)))) (λ e. now)
+        acknowledge_cases shape s h v looked (Keeps (Acts (ReadsRegister v (Ok register)))) (λ e. now)
         (λ e o q. w.kept (Given v e) s h o (w.read s v e (rw is at q)) now)
 
     signals : (v n : ℕ) → RecordThere shape v n → 16 ≤ n → (signal : Signal) → Keeps (Acts (Signals v n signal)) (went shape 1023 s (changed shape v n (input.signalled signal) s))

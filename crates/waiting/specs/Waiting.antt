@@ -1,7 +1,7 @@
 -- What waits for a vCPU, and the calls that end its waiting: a ring of an SGI, and a pending PPI or SPI; and a line that its device holds. A ring is
 -- a bit of the source set that SGIR leaves at its target (document 01, "Distributor places"); it goes when IAR answers its number with its source,
 -- and a pending bit goes when IAR answers its number ("CPU interface places"). What else can take them is listed here, and nothing else can.
-use Rattle.std.specs.Prelude.{Bool, true, false, not, ◌&&◌, ◌||◌, List, [], ◌∷◌, ℕ, ◌+◌, ◌*◌, ◌-◌, ◌/◌, ◌%◌, ◌^◌, eqb, leb, ltb}
+use Rattle.std.specs.Prelude.{Bool, true, false, not, ◌&&◌, ◌||◌, List, [], ◌∷◌, ℕ, ◌+◌, ◌*◌, ◌-◌, ◌/◌, ◌%◌, ◌^◌, eqb, leb, ltb, Result, Ok, Err}
 use Rattle.interrupt.specs.declared.record.InterruptRecord.{InterruptRecord}
 use Rattle.interrupt.specs.Types.{is_private_id}
 use Rattle.interrupt.specs.Record.{held, falls_idle}
@@ -12,8 +12,6 @@ use Rattle.register.specs.declared.ranges.Class.{Class}
 use Rattle.register.specs.declared.ranges.Class.TheVariants.{Bits, Bytes}
 use Rattle.register.specs.declared.distributor.DistributorAccess.{DistributorAccess}
 use Rattle.register.specs.declared.distributor.DistributorAccess.TheVariants as distributor
-use Rattle.register.specs.declared.cpu_interface.CpuInterfaceAccess.{CpuInterfaceAccess}
-use Rattle.register.specs.declared.cpu_interface.CpuInterfaceAccess.TheVariants as interface
 use Rattle.register.specs.Frame.{bytes}
 use Rattle.register.specs.Ranges.{class_number}
 use Rattle.word.specs.Fields.{field_at}
@@ -24,6 +22,8 @@ use Rattle.answer.specs.Answer.{Outcome}
 use Rattle.input.specs.declared.Signal.{Signal}
 use Rattle.input.specs.declared.Signal.TheVariants.{Level, Edge}
 use Rattle.history.specs.History.{Call, Looks, ReadsRegister, WritesRegister, WritesPlace, Signals, Deed, Starts, Acts, deed, called}
+use Rattle.register.specs.declared.cpu_interface.CpuInterfaceRegister.{CpuInterfaceRegister}
+use Rattle.register.specs.declared.frame.Refusal.{Refusal}
 
 -- bit u of x
 abbrev pub bit : ℕ → ℕ → Bool
@@ -42,9 +42,9 @@ abbrev pub meets : ℕ → ℕ → ℕ → Bool
 meets v n u = not (is_private_id (record { 0 = n })) || eqb u v
 
 -- a read of IAR or AIAR that was answered by one of these
-abbrev pub gives : (ℕ → Bool) → CpuInterfaceAccess → Outcome → Bool
-gives these (interface.Refused r) o = false
-gives these (interface.At register) o = acknowledging register && eqb o.refusal 0 && these o.value
+abbrev pub gives : (ℕ → Bool) → Result CpuInterfaceRegister Refusal → Outcome → Bool
+gives these (Err r) o = false
+gives these (Ok register) o = acknowledging register && eqb o.refusal 0 && these o.value
 
 -- the class c is this one: classes go by their numbers
 abbrev pub is_class : Class → Class → Bool

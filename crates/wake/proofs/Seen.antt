@@ -1,5 +1,6 @@
 -- Whom a change of one record can wake: those alone whom the record is for, a private one's vCPU, and of an SPI those whom its mask names. Their byte is
 -- what ITARGETSR reads of the number. In any words. Assumes nothing.
+use Rattle.std.specs.Prelude.{Some}
 use mathlib.Core.Path.{◌≡◌, refl, sym, ap, subst, ◌∙◌}
 use mathlib.Core.Bool.{Bool, true, false, true≢false}
 use mathlib.Core.List.{List}
@@ -24,7 +25,6 @@ use Rattle.select.specs.Select.{offered}
 use Rattle.service.specs.Service.{Sound}
 use Rattle.wake.specs.Wake.{woken}
 use Rattle.select.specs.declared.Candidate.{Candidate}
-use Rattle.select.specs.declared.Selected.TheVariants.{Best}
 use Rattle.acknowledge.specs.Acknowledge.{offer}
 use Rattle.wake.proofs.Unseen.{Unseen, unseen_none, unseen_kept, unseen_wakes_not, only_that_record_wakes}
 
@@ -88,6 +88,6 @@ one_record_wakes shape v n f s h there ranged mask u exists others =
 
 -- and of those only whoever is then offered it: any transition, a change of the mask too
 pub one_record_alone_wakes : (shape : Shape) (v n : ℕ) (f : InterruptRecord → InterruptRecord) (s : List ℕ) → Sound shape s → RecordThere shape v n → (u : ℕ) → u < shape.count
-    → woken shape s (changed shape v n f s) u ≡ true → (c : Candidate) → offer shape u (changed shape v n f s) ≡ Best c → record_slot u c.intid.0 ≡ record_slot v n
+    → woken shape s (changed shape v n f s) u ≡ true → (c : Candidate) → offer shape u (changed shape v n f s) ≡ Some c → record_slot u c.intid.0 ≡ record_slot v n
 one_record_alone_wakes shape v n f s h there u exists =
     only_that_record_wakes shape u v n s (changed shape v n f s) exists (h.depths u exists) (one_record_unseen shape v n f s h there u) h.state.limits there

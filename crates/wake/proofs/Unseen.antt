@@ -1,11 +1,11 @@
 -- What a vCPU does not see does not wake it: writes of other vCPUs' slots; and where one record is written too, only that one can wake it, if it is for
 -- it. So after a change of one record a wake set need look at those alone whom the record is for. In any words, whatever their bits say. Assumes
 -- nothing.
+use Rattle.std.specs.Prelude.{Option, Some, None}
 use mathlib.Core.Path.{◌≡◌, refl, sym, ap, subst, ◌∙◌}
 use mathlib.Core.Bool.{Bool, true, false, not, cond, ◌&&◌, true≢false, and-false}
 use mathlib.Core.List.{List}
 use mathlib.Core.Logic.{◌⊎◌, inl, inr}
-use mathlib.Core.Option.{none, some}
 use Prim.Native.Nat.{ℕ, ◌≤◌, ◌<◌}
 use native.Mathlib.Omega.{arith}
 use lib.Dec.{ltb}
@@ -23,8 +23,6 @@ use Rattle.state.proofs.SlotKinds.{apart_record}
 use Rattle.state.proofs.Ready.{PutKeeps, put_ready_other}
 use Rattle.state.proofs.Tests.{left_true}
 use Rattle.select.specs.declared.Candidate.{Candidate}
-use Rattle.select.specs.declared.Selected.{Selected}
-use Rattle.select.specs.declared.Selected.TheVariants.{Best, Nothing}
 use Rattle.select.specs.Select.{offered, eligible, ready_at, candidate, both_on}
 use Rattle.select.proofs.Meaning.{best_is}
 use Rattle.service.specs.Service.{depth_at, running_of, running}
@@ -45,22 +43,22 @@ candidate_for_lem shape u r m chosen =
 -- a slot of another vCPU than u
 pub record OfOther (u : ℕ) (t : Slot) : Type 0 where
   pub whose : ℕ
-  pub is : vcpu_of t ≡ some whose
+  pub is : vcpu_of t ≡ Some whose
   pub apart : whose ≡ u → ⊥
 
 -- or the slot x
 abbrev pub Aside : ℕ → Slot → Slot → Type 0
 Aside u x t = (t ≡ x) ⊎ OfOther u t
 
-none_some : (v : ℕ) → none ≡ some v → ⊥
+none_some : (v : ℕ) → None ≡ Some v → ⊥
 none_some v e = let z : ◌≡◌ {A = ℕ} 0 1 = cc in omega arith
 
 -- nothing of u's own is another's, nor is what is nobody's
-own_seen : (u : ℕ) (x t : Slot) → vcpu_of t ≡ some u → (t ≡ x → ⊥) → Aside u x t → ⊥
+own_seen : (u : ℕ) (x t : Slot) → vcpu_of t ≡ Some u → (t ≡ x → ⊥) → Aside u x t → ⊥
 own_seen u x t own apart (inl p) = apart p
-own_seen u x t own apart (inr o) = let e : some o.whose ≡ some u = sym o.is ∙ own in o.apart (cc)
+own_seen u x t own apart (inr o) = let e : Some o.whose ≡ Some u = sym o.is ∙ own in o.apart (cc)
 
-common_seen : (u : ℕ) (x t : Slot) → vcpu_of t ≡ none → (t ≡ x → ⊥) → Aside u x t → ⊥
+common_seen : (u : ℕ) (x t : Slot) → vcpu_of t ≡ None → (t ≡ x → ⊥) → Aside u x t → ⊥
 common_seen u x t nobodys apart (inl p) = apart p
 common_seen u x t nobodys apart (inr o) = none_some o.whose (sym nobodys ∙ o.is)
 
@@ -126,7 +124,7 @@ module _ (shape : Shape) (u v n : ℕ) (s r : List ℕ) (exists : u < shape.coun
     candidate_same = λ i. eligible (value_same PriorityMask i) u m (ready_same i) (record_same i)
 
   -- so what is offered after, if it is another, was offered before
-  ready_before : (c : Candidate) → offer shape u r ≡ Best c → (record_slot u c.intid.0 ≡ x → ⊥) → ready shape u s ≡ true
+  ready_before : (c : Candidate) → offer shape u r ≡ Some c → (record_slot u c.intid.0 ≡ x → ⊥) → ready shape u s ≡ true
   ready_before c p apart =
       let is = offer_is shape u r c p in
       let best = best_is shape u r c is.best_one in
@@ -137,11 +135,11 @@ module _ (shape : Shape) (u v n : ℕ) (s r : List ℕ) (exists : u < shape.coun
       (sym on_same ∙ is.on)
 
   -- and wakes nobody
-  another_wakes_not : Limits shape → (c : Candidate) → offer shape u r ≡ Best c → (record_slot u c.intid.0 ≡ x → ⊥) → woken shape s r u ≡ false
+  another_wakes_not : Limits shape → (c : Candidate) → offer shape u r ≡ Some c → (record_slot u c.intid.0 ≡ x → ⊥) → woken shape s r u ≡ false
   another_wakes_not l c p apart = ap (λ (b : Bool). b && gives_number (acknowledge shape u r)) (ready_spurious shape u s l ∙ ap not (ready_before c p apart))
 
   -- the law: whoever is woken is offered the one whose record it is
-  pub only_that_record_wakes : Limits shape → RecordThere shape v n → woken shape s r u ≡ true → (c : Candidate) → offer shape u r ≡ Best c → record_slot u c.intid.0 ≡ record_slot v n
+  pub only_that_record_wakes : Limits shape → RecordThere shape v n → woken shape s r u ≡ true → (c : Candidate) → offer shape u r ≡ Some c → record_slot u c.intid.0 ≡ record_slot v n
   only_that_record_wakes l there up c p =
       let best = best_is shape u r c (offer_is shape u r c p).best_one in
       same_or_other shape s (record_slot u c.intid.0) (record_slot v n)
@@ -152,9 +150,9 @@ module _ (shape : Shape) (u v n : ℕ) (s r : List ℕ) (exists : u < shape.coun
   pub unseen_wakes_not : Limits shape → ((m : ℕ) → m < shape.limit → record_slot u m ≡ record_slot v n → offered u m (record_at shape u m r) ≡ false) → woken shape s r u ≡ false
   unseen_wakes_not l not_for_it = go (offer shape u r) refl
     where
-      go : (o : Selected) → offer shape u r ≡ o → woken shape s r u ≡ false
-      go Nothing p = ap (λ (y : Selected). is_spurious (acknowledge shape u s) && gives_number (answered shape u r y)) p ∙ unfold answered in and-false (is_spurious (acknowledge shape u s))
-      go (Best c) p = another_wakes_not l c p (λ e.
+      go : (o : Option Candidate) → offer shape u r ≡ o → woken shape s r u ≡ false
+      go None p = ap (λ (y : Option Candidate). is_spurious (acknowledge shape u s) && gives_number (answered shape u r y)) p ∙ unfold answered in and-false (is_spurious (acknowledge shape u s))
+      go (Some c) p = another_wakes_not l c p (λ e.
           let best = best_is shape u r c (offer_is shape u r c p).best_one in
           let m = c.intid.0 in
           let for_it = candidate_for_lem shape u r m best.chosen in

@@ -1,4 +1,5 @@
 -- What is computed before and after a call is the wake set as it is defined. Assumes nothing.
+use Rattle.std.specs.Prelude.{Option, Some, None}
 use mathlib.Core.Path.{◌≡◌, refl, sym, ap, ◌∙◌}
 use mathlib.Core.Bool.{Bool, true, false, not, ◌&&◌, true≢false}
 use mathlib.Core.List.{List}
@@ -15,8 +16,6 @@ use Rattle.state.specs.declared.layout.Shape.{Shape}
 use Rattle.state.specs.Layout.{Limits}
 use Rattle.state.specs.Loop.{every_below}
 use Rattle.state.proofs.Tests.{every_at}
-use Rattle.acknowledge.specs.declared.Read.{Read}
-use Rattle.acknowledge.specs.declared.Read.TheVariants.{Value, StackFull}
 use Rattle.acknowledge.specs.Acknowledge.{acknowledge}
 use Rattle.wake.specs.declared.IarAnswer.{IarAnswer}
 use Rattle.wake.specs.declared.IarAnswer.TheVariants.{Spurious, Number}
@@ -63,10 +62,10 @@ pub none_wakes_nobody : (shape : Shape) (s : List ℕ) → wake_set shape s s �
 unfolding wake_set gathered
 none_wakes_nobody shape s = gathered_idle 1 (λ v. bit_of (woken shape s s v)) shape.count 0 (omega arith) (λ v a b. ap bit_of (not_both (acknowledge shape v s)))
   where
-    not_both : (a : Read) → (is_spurious a && gives_number a) ≡ false
-    not_both (Value x) = go (eqb x 1023)
+    not_both : (a : Option ℕ) → (is_spurious a && gives_number a) ≡ false
+    not_both (Some x) = go (eqb x 1023)
       where
         go : (b : Bool) → (b && not b) ≡ false
         go true = refl
         go false = refl
-    not_both StackFull = refl
+    not_both None = refl

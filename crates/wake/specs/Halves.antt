@@ -1,16 +1,15 @@
 -- How a wake set is computed, in two halves: before a call who is quiet, of those whom it can wake, and after it who of these is not. A reader need not believe any of it; the
 -- promise is in Wake.antt, and proofs/WakeSets.antt shows that the halves make it.
-use Rattle.std.specs.Prelude.{Bool, true, false, ◌&&◌, List, ℕ, ◌/◌, ◌%◌, ◌^◌, eqb}
+use Rattle.std.specs.Prelude.{Bool, true, false, ◌&&◌, List, ℕ, ◌/◌, ◌%◌, ◌^◌, eqb, Option, Some, None}
 use Rattle.interrupt.specs.Types.{every_vcpu}
 use Rattle.word.specs.Fields.{gathered}
 use Rattle.word.specs.Word.{bit_of}
 use Rattle.state.specs.declared.layout.Shape.{Shape}
-use Rattle.select.specs.declared.Selected.{Selected}
-use Rattle.select.specs.declared.Selected.TheVariants.{Best, Nothing}
 use Rattle.acknowledge.specs.Acknowledge.{offer, acknowledge}
 use Rattle.wake.specs.declared.IarAnswer.{IarAnswer}
 use Rattle.wake.specs.declared.IarAnswer.TheVariants.{Spurious, Number}
 use Rattle.wake.specs.Wake.{is_spurious, gives_number}
+use Rattle.select.specs.declared.Candidate.{Candidate}
 
 abbrev pub answers_so : IarAnswer → Shape → List ℕ → ℕ → Bool
 answers_so Spurious shape s v = is_spurious (acknowledge shape v s)
@@ -36,9 +35,9 @@ abbrev pub wake_from : ℕ → Shape → List ℕ → ℕ
 wake_from quiet shape s = answering_among Number quiet shape s
 
 -- the direct test: an IAR read finds something to hand out
-abbrev pub is_some : Selected → Bool
-is_some Nothing = false
-is_some (Best c) = true
+abbrev pub is_some : Option Candidate → Bool
+is_some None = false
+is_some (Some c) = true
 
 unfoldable pub ready : Shape → ℕ → List ℕ → Bool
 ready shape v s = is_some (offer shape v s)

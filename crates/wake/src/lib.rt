@@ -30,11 +30,8 @@ fn ready(words: &[u32], shape: Shape, vcpu: GicVcpuId) -> bool
     ensures { result ≡ ready shape vcpu.0 words.now }
 {
     // Some candidate is enough, which need not be the best.
-    if both_enabled(words, shape, vcpu) {
-        some_below(words, shape, vcpu, preemption_bound(words, shape, vcpu))
-    } else {
-        false
-    }
+    both_enabled(words, shape, vcpu)
+        && some_below(words, shape, vcpu, preemption_bound(words, shape, vcpu))
 }
 
 pub fn answers_so(words: &[u32], shape: Shape, vcpu: GicVcpuId, answer: IarAnswer) -> bool
@@ -52,11 +49,7 @@ fn among_answers(words: &[u32], shape: Shape, vcpu: GicVcpuId, among: u8, answer
     requires { Served shape vcpu.0 words.now }
     ensures { result ≡ among_answers answer among shape words.now vcpu.0 }
 {
-    if (among >> vcpu.0) % 2 == 1 {
-        answers_so(words, shape, vcpu, answer)
-    } else {
-        false
-    }
+    (among >> vcpu.0) % 2 == 1 && answers_so(words, shape, vcpu, answer)
 }
 
 fn bit_at(vcpu: GicVcpuId, set: bool) -> u8
@@ -66,17 +59,15 @@ fn bit_at(vcpu: GicVcpuId, set: bool) -> u8
     if set { vcpu_bit(vcpu) } else { 0 }
 }
 
+#[tactic(auto, unfolding(word::specs::Fields::gathered, crate::specs::Halves::answering_among))]
 fn answering_among(words: &[u32], shape: Shape, among: u8, answer: IarAnswer) -> u8
     requires { Sound shape words.now }
     ensures { result ≡ answering_among answer among shape words.now }
 {
-    let count = shape.count;
     let mut bits: u8 = 0;
-    let mut v = 0;
-    while v < count {
+    for v in 0..shape.count {
         let vcpu = GicVcpuId(v);
         bits += bit_at(vcpu, among_answers(words, shape, vcpu, among, answer));
-        v += 1;
     }
     bits
 }

@@ -1,5 +1,6 @@
 -- The laws of a record's word: decoding an encoded record gives it back, encoding what a canonical word means gives the word back, an
 -- encoded record is a canonical word, and a decoded one is in range. Assumes nothing.
+use Rattle.std.specs.Prelude.{Option, Some, None}
 use mathlib.Core.Path.{◌≡◌, refl, sym, ap, ap₂, ◌∙◌}
 use mathlib.Core.Bool.{Bool, true, false, not, cond, true≢false}
 use mathlib.Core.List.{List, [], ◌∷◌}
@@ -14,11 +15,8 @@ use Rattle.word.specs.Fields.{bits, field, packed}
 use Rattle.word.specs.Word.{flag, trigger_of, mask_of, owner_of, record_of, bit_of, is_set, mask_byte, owners_held, owner_byte, fields_of, word_of, owner_in_range, InRange, CanonicalRecord}
 use Rattle.interrupt.specs.declared.types.TriggerMode.{TriggerMode}
 use Rattle.interrupt.specs.declared.types.TriggerMode.TheVariants.{Level, Edge}
-use Rattle.interrupt.specs.declared.record.CpuTargetMask.{CpuTargetMask}
-use Rattle.interrupt.specs.declared.record.CpuTargetMask.TheVariants.{Unset, Mask}
-use Rattle.interrupt.specs.declared.record.Owner.{Owner}
-use Rattle.interrupt.specs.declared.record.Owner.TheVariants.{Nobody, Vcpu}
 use Rattle.interrupt.specs.declared.record.InterruptRecord.{InterruptRecord}
+use Rattle.interrupt.specs.declared.types.GicVcpuId.{GicVcpuId}
 
 -- each part of a record, written and read back
 pub bit_fits : (b : Bool) → bit_of b < 2 ^ 1
@@ -36,17 +34,17 @@ pub trigger_back : (t : TriggerMode) → trigger_of (not (is_level t)) ≡ t
 trigger_back Level = refl
 trigger_back Edge = refl
 
-mask_back : (m : CpuTargetMask) → mask_of (is_set m) (mask_byte m) ≡ m
-mask_back Unset = refl
-mask_back (Mask byte) = refl
+mask_back : (m : Option ℕ) → mask_of (is_set m) (mask_byte m) ≡ m
+mask_back None = refl
+mask_back (Some byte) = refl
 
-owner_fits : (o : Owner) → owner_byte o < 2 ^ 8
-owner_fits Nobody = omega arith
-owner_fits (Vcpu v) = omega arith
+owner_fits : (o : Option GicVcpuId) → owner_byte o < 2 ^ 8
+owner_fits None = omega arith
+owner_fits (Some v) = omega arith
 
-owner_back : (o : Owner) → owner_in_range o → owner_of (owner_byte o) ≡ o
-owner_back Nobody h = refl
-owner_back (Vcpu v) h =
+owner_back : (o : Option GicVcpuId) → owner_in_range o → owner_of (owner_byte o) ≡ o
+owner_back None h = refl
+owner_back (Some v) h =
     let same : v.0 % owners_held + 1 - 1 ≡ v.0 = omega arith in
     simp (ne_eqb (v.0 % owners_held + 1) 0 (λ e. omega arith), same)
 
@@ -73,7 +71,7 @@ mask_again false byte h = sym (h refl)
 owner_again : (x : ℕ) → x < 256 → owner_byte (owner_of x) ≡ x
 owner_again x h = go (eqb x 0) refl
   where
-    go : (b : Bool) → eqb x 0 ≡ b → owner_byte (cond b Nobody (Vcpu (record { 0 = x - 1 }))) ≡ x
+    go : (b : Bool) → eqb x 0 ≡ b → owner_byte (cond b None (Some (record { 0 = x - 1 }))) ≡ x
     go true e = sym (eqb-true x 0 e)
     go false e = let n : x ≡ 0 → ⊥ = eqb-false x 0 e in omega arith
 
@@ -159,9 +157,9 @@ pub encode_decode : (w : ℕ) → CanonicalRecord w → word_of (record_of w) �
 unfolding word_of sum widths
 encode_decode w h = ap packed (fields_again w h) ∙ packed_fields 0 widths w ∙ rw div-one (mod-eq_of_lt h.fits)
 
-unset_byte : (m : CpuTargetMask) → is_set m ≡ false → mask_byte m ≡ 0
-unset_byte Unset e = refl
-unset_byte (Mask byte) e = absurd (true≢false e)
+unset_byte : (m : Option ℕ) → is_set m ≡ false → mask_byte m ≡ 0
+unset_byte None e = refl
+unset_byte (Some byte) e = absurd (true≢false e)
 
 -- an encoded record is a canonical word
 pub encoded_canonical : (r : InterruptRecord) → InRange r → CanonicalRecord (word_of r)
@@ -178,7 +176,7 @@ mask_below false byte h = omega arith
 owner_below : (x : ℕ) → x < 2 ^ 8 → owner_in_range (owner_of x)
 owner_below x h = go (eqb x 0) refl
   where
-    go : (b : Bool) → eqb x 0 ≡ b → owner_in_range (cond b Nobody (Vcpu (record { 0 = x - 1 })))
+    go : (b : Bool) → eqb x 0 ≡ b → owner_in_range (cond b None (Some (record { 0 = x - 1 })))
     go true e = tt
     go false e = let n : x ≡ 0 → ⊥ = eqb-false x 0 e in omega arith
 

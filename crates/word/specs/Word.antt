@@ -1,16 +1,13 @@
 -- A record's word: one record is one word of the lent state. From the lowest bit: enabled, pending, active, in flight, redelivery
 -- noted, line asserted, edge, target mask set; then three bytes, the priority, the target mask, and the owner (0 for nobody, v + 1 for vCPU
 -- v). Every word is exactly one record, as document 01 asks ("any stored bits decode to exactly one record").
-use Rattle.std.specs.Prelude.{Bool, true, false, not, cond, ◌≡◌, List, [], ◌∷◌, ℕ, ◌+◌, ◌-◌, ◌%◌, ◌^◌, ◌<◌, eqb}
+use Rattle.std.specs.Prelude.{Bool, true, false, not, cond, ◌≡◌, List, [], ◌∷◌, ℕ, ◌+◌, ◌-◌, ◌%◌, ◌^◌, ◌<◌, eqb, Option, Some, None}
 use Rattle.interrupt.specs.Types.{is_level, priority_of}
 use Rattle.word.specs.Fields.{Field, bits, field, packed}
 use Rattle.interrupt.specs.declared.types.TriggerMode.{TriggerMode}
 use Rattle.interrupt.specs.declared.types.TriggerMode.TheVariants.{Level, Edge}
-use Rattle.interrupt.specs.declared.record.CpuTargetMask.{CpuTargetMask}
-use Rattle.interrupt.specs.declared.record.CpuTargetMask.TheVariants.{Unset, Mask}
-use Rattle.interrupt.specs.declared.record.Owner.{Owner}
-use Rattle.interrupt.specs.declared.record.Owner.TheVariants.{Nobody, Vcpu}
 use Rattle.interrupt.specs.declared.record.InterruptRecord.{InterruptRecord}
+use Rattle.interrupt.specs.declared.types.GicVcpuId.{GicVcpuId}
 
 -- bit `place` of w
 abbrev pub flag : ℕ → ℕ → Bool
@@ -19,11 +16,11 @@ flag place w = eqb (field place 1 w) 1
 abbrev pub trigger_of : Bool → TriggerMode
 trigger_of edge = cond edge Edge Level
 
-abbrev pub mask_of : Bool → ℕ → CpuTargetMask
-mask_of set byte = cond set (Mask byte) Unset
+abbrev pub mask_of : Bool → ℕ → Option ℕ
+mask_of set byte = cond set (Some byte) None
 
-abbrev pub owner_of : ℕ → Owner
-owner_of byte = cond (eqb byte 0) Nobody (Vcpu (record { 0 = byte - 1 }))
+abbrev pub owner_of : ℕ → Option GicVcpuId
+owner_of byte = cond (eqb byte 0) None (Some (record { 0 = byte - 1 }))
 
 -- what a word means
 unfoldable pub record_of : ℕ → InterruptRecord
@@ -43,22 +40,22 @@ record_of w = record {
 abbrev pub bit_of : Bool → ℕ
 bit_of b = cond b 1 0
 
-abbrev pub is_set : CpuTargetMask → Bool
-is_set Unset = false
-is_set (Mask byte) = true
+abbrev pub is_set : Option ℕ → Bool
+is_set None = false
+is_set (Some byte) = true
 
-abbrev pub mask_byte : CpuTargetMask → ℕ
-mask_byte Unset = 0
-mask_byte (Mask byte) = byte
+abbrev pub mask_byte : Option ℕ → ℕ
+mask_byte None = 0
+mask_byte (Some byte) = byte
 
 -- how many vCPUs a byte tells apart beside nobody
 abbrev pub owners_held : ℕ
 owners_held = 255
 
 -- v + 1 for every v below that; any other v stays an owner too, so that encoding asks nothing
-abbrev pub owner_byte : Owner → ℕ
-owner_byte Nobody = 0
-owner_byte (Vcpu v) = v.0 % owners_held + 1
+abbrev pub owner_byte : Option GicVcpuId → ℕ
+owner_byte None = 0
+owner_byte (Some v) = v.0 % owners_held + 1
 
 -- the eight flags, and what stands above them
 abbrev pub flags_then : InterruptRecord → List Field → List Field
@@ -80,9 +77,9 @@ fields_of r = flags_then r (bits 8 r.priority.0 ∷ bits 8 (mask_byte r.cpu_targ
 unfoldable pub word_of : InterruptRecord → ℕ
 word_of r = packed (fields_of r)
 
-abbrev pub owner_in_range : Owner → Type 0
-owner_in_range Nobody = Unit
-owner_in_range (Vcpu v) = v.0 < owners_held
+abbrev pub owner_in_range : Option GicVcpuId → Type 0
+owner_in_range None = Unit
+owner_in_range (Some v) = v.0 < owners_held
 
 -- a record that a word can hold: what the types say, and an owner that the byte holds (there are at most 8 vCPUs)
 pub record InRange (r : InterruptRecord) : Type 0 where

@@ -6,7 +6,7 @@ ghost use Rattle.word.specs.Word.{bit_of, trigger_of, mask_of, owner_of, record_
 ghost use Rattle.word.specs.Fields.{packed};
 ghost use Rattle.interrupt.specs.Types.{is_level};
 
-use interrupt::{CpuTargetMask, GicVcpuId, InterruptRecord, Owner, Priority, TriggerMode};
+use interrupt::{GicVcpuId, InterruptRecord, Priority, TriggerMode};
 
 // What the lowest bit of each byte above the flags counts.
 const PRIORITY: u32 = 0x100;
@@ -18,6 +18,7 @@ const OWNER: u32 = 0x100_0000;
 // How many vCPUs a byte tells apart beside nobody.
 const OWNERS: usize = 255;
 
+// No From: of a bool it would not be said what true means.
 pub fn trigger_of(edge: bool) -> TriggerMode
     ensures { result ≡ trigger_of edge }
 {
@@ -28,70 +29,53 @@ pub fn trigger_of(edge: bool) -> TriggerMode
     }
 }
 
-fn mask_of(set: bool, byte: u8) -> CpuTargetMask
+fn mask_of(set: bool, byte: u8) -> Option<u8>
     ensures { result ≡ mask_of set byte }
 {
-    if set {
-        CpuTargetMask::Mask(byte)
-    } else {
-        CpuTargetMask::Unset
-    }
+    set.then_some(byte)
 }
 
-pub fn owner_of(byte: usize) -> Owner
+pub fn owner_of(byte: usize) -> Option<GicVcpuId>
     ensures { result ≡ owner_of byte }
 {
-    if byte == 0 {
-        Owner::Nobody
-    } else {
-        Owner::Vcpu(GicVcpuId(byte - 1))
-    }
+    byte.checked_sub(1).map(GicVcpuId)
 }
 
 pub fn bit(b: bool) -> u32
     ensures { (result ≡ bit_of b) × (result < 2) }
 {
-    if b { 1 } else { 0 }
+    u32::from(b)
 }
 
 fn edge_bit(trigger: TriggerMode) -> u32
     ensures { (result ≡ bit_of (not (is_level trigger))) × (result < 2) }
 {
-    match trigger {
-        TriggerMode::Level => 0,
-        TriggerMode::Edge => 1,
-    }
+    bit(!trigger.is_level())
 }
 
-fn set_bit(mask: CpuTargetMask) -> u32
+fn set_bit(mask: Option<u8>) -> u32
     ensures { (result ≡ bit_of (is_set mask)) × (result < 2) }
 {
-    match mask {
-        CpuTargetMask::Unset => 0,
-        CpuTargetMask::Mask(_) => 1,
-    }
+    bit(mask.is_some())
 }
 
-pub fn mask_byte(mask: CpuTargetMask) -> u8
+pub fn mask_byte(mask: Option<u8>) -> u8
     ensures { result ≡ mask_byte mask }
 {
-    match mask {
-        CpuTargetMask::Unset => 0,
-        CpuTargetMask::Mask(byte) => byte,
-    }
+    mask.unwrap_or(0)
 }
 
 // The remainder is the number itself below `OWNERS`, and lets any owner be encoded.
-fn owner_byte(owner: Owner) -> u8
+fn owner_byte(owner: Option<GicVcpuId>) -> u8
     ensures { result ≡ owner_byte owner }
 {
     match owner {
-        Owner::Nobody => 0,
-        Owner::Vcpu(vcpu) => (vcpu.0 % OWNERS + 1) as u8,
+        None => 0,
+        Some(vcpu) => (vcpu.0 % OWNERS + 1) as u8,
     }
 }
 
-// Every word is exactly one record.
+// Every word is exactly one record. (No From: both types are declared elsewhere.)
 #[tactic(auto, unfolding(crate::specs::Word::record_of))]
 pub fn decode(w: u32) -> InterruptRecord
     ensures { result ≡ record_of w }
@@ -112,29 +96,25 @@ pub fn decode(w: u32) -> InterruptRecord
 
 // The low byte of the word.
 #[tactic(auto, unfolding(crate::specs::Fields::packed))]
-fn flags(r: InterruptRecord) -> u32
+pub fn flags(r: InterruptRecord) -> u32
     ensures { (result ≡ packed (flags_then r [])) × (result < 256) }
 {
-    let trigger = r.trigger;
-    let mask = r.cpu_target_mask;
     bit(r.enabled)
         + 2 * bit(r.pending)
         + 4 * bit(r.active)
         + 8 * bit(r.inflight)
         + 16 * bit(r.redelivery_pending)
         + 32 * bit(r.line_asserted)
-        + 64 * edge_bit(trigger)
-        + 128 * set_bit(mask)
+        + 64 * edge_bit(r.trigger)
+        + 128 * set_bit(r.cpu_target_mask)
 }
 
 #[tactic(auto, unfolding(crate::specs::Fields::packed, crate::specs::Word::word_of))]
 pub fn encode(r: InterruptRecord) -> u32
     ensures { result ≡ word_of r }
 {
-    let mask = r.cpu_target_mask;
-    let owner = r.owner;
     flags(r)
         + PRIORITY * (r.priority.0 as u32)
-        + TARGET_MASK * (mask_byte(mask) as u32)
-        + OWNER * (owner_byte(owner) as u32)
+        + TARGET_MASK * (mask_byte(r.cpu_target_mask) as u32)
+        + OWNER * (owner_byte(r.owner) as u32)
 }

@@ -6,14 +6,14 @@ use Rattle.acknowledge.proofs.take_pending_delivery.Goals as goal
 
 pub accept-requires : goal.accept-requires
 accept-requires c =
-    (c.requires, offer_below c.args.shape c.args.vcpu.0 c.args.words.now _ (sym c.offer.ensures ∙ c.in-Best.is))
+    (c.requires, offer_below c.args.shape c.args.vcpu.0 c.args.words.now _ (sym c.offer.ensures ∙ c.in-Some.is))
 
-pub returns-in-Best : goal.returns-in-Best
-returns-in-Best c =
-    let same = sym c.in-Best.is ∙ c.offer.ensures in
+pub returns-in-Some : goal.returns-in-Some
+returns-in-Some c =
+    let same = sym c.in-Some.is ∙ c.offer.ensures in
     (c.accept.ensures.0 ∙ simp same, c.accept.ensures.1 ∙ simp same)
 
-pub returns-in-Nothing : goal.returns-in-Nothing
+pub returns-in-None : goal.returns-in-None
 unfolding answered taken
-returns-in-Nothing c =
-    (simp (← c.offer.ensures, c.in-Nothing.is), simp (← c.offer.ensures, c.in-Nothing.is))
+returns-in-None c =
+    (simp (← c.offer.ensures, c.in-None.is), simp (← c.offer.ensures, c.in-None.is))

@@ -1,5 +1,4 @@
 -- `bits::clear_active` meets its contract. Assumes nothing.
-use borrow.Author.Rules.{rules}
 use Rattle.bits.specs.Bits.{clear_active}
 use Rattle.bits.proofs.clear_active.Goals as goal
 

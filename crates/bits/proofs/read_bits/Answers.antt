@@ -1,5 +1,4 @@
 -- `bits::read_bits` meets its contract. Assumes nothing.
-use borrow.Author.Rules.{rules}
 use Rattle.bits.proofs.Runs.{run_at, run_read, none_reads}
 use Rattle.bits.proofs.read_bits.Goals as goal
 

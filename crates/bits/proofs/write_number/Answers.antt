@@ -1,5 +1,4 @@
 -- `bits::write_number` meets its contract. Assumes nothing.
-use borrow.Author.Rules.{rules}
 use Rattle.bits.proofs.Runs.{number_written, number_kept}
 use Rattle.bits.proofs.write_number.Goals as goal
 

@@ -1,16 +1,10 @@
 -- `input::device_input` meets its contract. Assumes nothing.
-use mathlib.Core.Path.{sym, ◌∙◌}
+use Rattle.std.specs.Prelude.{Some}
+use mathlib.Core.Path.{◌≡◌}
+use native.Mathlib.Omega.{arith}
+use Rattle.state.specs.Lent.{validated}
 use Rattle.service.proofs.Soundness.{validated_sound}
-use Rattle.input.specs.Input.{device_input}
 use Rattle.input.proofs.device_input.Goals as goal
 
-pub returns-in_default : goal.returns-in_default
-unfolding device_input
-returns-in_default c = simp (← c.validate_state.ensures, c.in_default.is)
-
 pub input_at-requires : goal.input_at-requires
-input_at-requires c = validated_sound _ c.args.words.now (sym c.validate_state.ensures ∙ c.in-Sound.is)
-
-pub returns : goal.returns
-unfolding device_input
-returns c = c.input_at.ensures ∙ simp (← c.validate_state.ensures, c.in-Sound.is)
+input_at-requires c = let sound : validated c.args.words.now ≡ Some c.in_ok-shape.shape = grind arith in validated_sound _ c.args.words.now sound

@@ -1,25 +1,13 @@
 -- `lawful_test::spis_lawful` meets its contract. Assumes nothing.
-use Prim.Native.Nat.{◌+◌, ◌-◌}
-use native.Mathlib.Omega.{arith}
+use mathlib.Core.Path.{refl}
+use Prim.Native.Nat.{◌-◌}
 use borrow.Author.Rules.{rules}
-use Rattle.state.specs.Loop.{every_below}
+use borrow.Author.Tests.{tests}
 use Rattle.lawful_test.specs.LawfulTest.{spi_passes}
-use Rattle.lawful_test.proofs.Loops.{goes_on, leaves}
-use Rattle.std.proofs.lemmas.Bool.{not_from_true, not_from_false}
+use Rattle.lawful_test.proofs.Loops.{all_numbers}
 use Rattle.lawful_test.proofs.spis_lawful.Goals as goal
 
-pub loop-i-init : goal.loop-i-init
-unfolding every_below
-loop-i-init c = search rules
-
-pub returns-then-not-spi_lawful : goal.returns-then-not-spi_lawful
-returns-then-not-spi_lawful c =
+pub returns : goal.returns
+returns c =
     let a = c.args in
-    let i = c.loop-i.i in
-    leaves (λ k. spi_passes a.shape a.words.now (32 + k)) i _ c.spi_lawful.ensures (a.shape.limit - 32) (omega arith) (not_from_false _ c.if-not-spi_lawful.true)
-
-pub loop-i-preserved : goal.loop-i-preserved
-loop-i-preserved c =
-    let a = c.args in
-    let l = c.loop-i in
-    (search rules, goes_on (λ k. spi_passes a.shape a.words.now (32 + k)) l.i _ c.spi_lawful.ensures l.invariant.1 (not_from_true _ c.if-not-spi_lawful.false))
+    all_numbers (spi_passes a.shape a.words.now) (λ x b q k. search (rules, tests)) 32 a.shape.limit (a.shape.limit - 32) c.all.ensures.ran refl refl

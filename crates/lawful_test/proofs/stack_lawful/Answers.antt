@@ -17,7 +17,7 @@ pub returns-then-not-entry_lawful : goal.returns-then-not-entry_lawful
 returns-then-not-entry_lawful c =
     let a = c.args in
     let l = c.loop-i in
-    let same = simp (l.invariant.1, c.stack_entry-entry.ensures) at c.entry_lawful.ensures in
+    let same = simp (l.invariant.0, c.stack_entry-entry.ensures) at c.entry_lawful.ensures in
     leaves (entry_lawful_at a.shape a.vcpu.0 a.words.now) l.i _ same _ (omega (arith, c.depth-held.ensures)) (not_from_false _ c.if-not-entry_lawful.true)
 
 pub loop-i-preserved : goal.loop-i-preserved
@@ -26,5 +26,5 @@ loop-i-preserved c =
     let a = c.args in
     let l = c.loop-i in
     let entry = c.stack_entry-entry.ensures in
-    let same = simp (l.invariant.1, entry) at c.entry_lawful.ensures in
-    (search rules, rw add-one (simp entry), goes_on (entry_lawful_at a.shape a.vcpu.0 a.words.now) l.i _ same l.invariant.2 (not_from_true _ c.if-not-entry_lawful.false))
+    let same = simp (l.invariant.0, entry) at c.entry_lawful.ensures in
+    (rw add-one (simp entry), goes_on (entry_lawful_at a.shape a.vcpu.0 a.words.now) l.i _ same l.invariant.1 (not_from_true _ c.if-not-entry_lawful.false))

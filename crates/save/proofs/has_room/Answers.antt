@@ -7,7 +7,7 @@ use lib.ListN.{length}
 use borrow.Author.Tests.{le-leb}
 use Rattle.image.specs.Image.{image}
 use Rattle.save.proofs.Bound.{image_fits}
-use Rattle.save.proofs.Saved.{lawful_sound, lawful_fits, measured}
+use Rattle.save.proofs.Saved.{lawful_sound, lawful_fits}
 use Rattle.save.proofs.has_room.Goals as goal
 
 pub returns-then-image_bytes-buffer : goal.returns-then-image_bytes-buffer
@@ -21,6 +21,3 @@ pub put_image-length-requires : goal.put_image-length-requires
 put_image-length-requires c =
     let lawful = c.requires in
     (lawful_sound lawful, lawful_fits false _ lawful (λ e. absurd (false≢true e)))
-
-pub returns : goal.returns
-returns c = measured c.put_image-length.ensures

@@ -1,12 +1,12 @@
 -- `vgic::vgic_read_v2_cpu_interface` meets its contract. Assumes nothing.
+use Rattle.std.specs.Prelude.{Err}
 use mathlib.Core.Path.{◌∙◌}
 use Rattle.register.specs.declared.frame.Refusal.TheVariants.{Width}
-use Rattle.answer.specs.declared.Answer.TheVariants.{Refused}
 use Rattle.vgic.proofs.Packing.{answers}
 use Rattle.vgic.proofs.vgic_read_v2_cpu_interface.Goals as goal
 
 pub returns-in_default : goal.returns-in_default
-returns-in_default c = answers _ (Refused Width) c.packed.ensures _ _ (simp (← c.new.ensures, c.in_default.is))
+returns-in_default c = answers _ (Err Width) c.packed.ensures _ _ (simp (← c.new.ensures, c.in_default.is))
 
 pub returns : goal.returns
-returns c = answers _ c.read_v2_cpu_interface.result c.packed-2.ensures _ _ (c.read_v2_cpu_interface.ensures ∙ simp (← c.new.ensures, c.in-Valid.is))
+returns c = answers _ c.read_v2_cpu_interface.result c.packed-2.ensures _ _ (c.read_v2_cpu_interface.ensures ∙ simp (← c.new.ensures, c.in-Some.is))

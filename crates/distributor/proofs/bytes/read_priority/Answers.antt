@@ -1,5 +1,4 @@
 -- `distributor::bytes::read_priority` meets its contract. Assumes nothing.
-use borrow.Author.Rules.{rules}
 use borrow.Author.Tests.{lt-ltb, le-ltb}
 use Rattle.distributor.specs.Bytes.{read_priority}
 use Rattle.distributor.proofs.bytes.read_priority.Goals as goal

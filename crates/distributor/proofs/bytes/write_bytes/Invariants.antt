@@ -1,16 +1,9 @@
-use mathlib.Core.Path.{◌≡◌, ◌∙◌}
-use Prim.Native.Nat.{◌+◌, ◌≤◌, ◌-◌}
-use native.Mathlib.Numerals.{add-one}
-use native.Mathlib.Omega.{arith}
-use lib.ListN.{length}
-use borrow.Author.Rules.{rules}
-use Rattle.distributor.specs.Bytes.{write_byte, write_bytes}
+use mathlib.Core.Path.{◌≡◌}
+use Prim.Native.Nat.{◌+◌}
+use Rattle.distributor.specs.Bytes.{write_byte}
 use Rattle.state.specs.Loop.{up_to}
 use Rattle.word.specs.Fields.{field_at}
 use Rattle.distributor.proofs.bytes.write_bytes.Given as goal
 
 abbrev pub invariant-loop-i : goal.invariant-loop-i
-invariant-loop-i l = (l.i ≤ l.count) × ((length l.words ≡ length l.fn.words) × (l.words ≡ up_to (λ j. write_byte l.shape l.register l.vcpu.0 (l.first.0 + j) (field_at 8 j l.value)) l.i l.fn.words))
-
-abbrev pub decreases-loop-i : goal.decreases-loop-i
-decreases-loop-i l = l.count - l.i
+invariant-loop-i l = l.words ≡ up_to (λ j. write_byte l.shape l.register l.vcpu.0 (l.first.0 + j) (field_at 8 j l.value)) l.i l.fn.words

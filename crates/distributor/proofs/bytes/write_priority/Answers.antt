@@ -1,6 +1,5 @@
 -- `distributor::bytes::write_priority` meets its contract. Assumes nothing.
 use mathlib.Core.Path.{◌∙◌}
-use borrow.Author.Rules.{rules}
 use borrow.Author.Tests.{lt-ltb, le-ltb}
 use Rattle.distributor.specs.Bytes.{write_priority}
 use Rattle.distributor.proofs.bytes.write_priority.Goals as goal

@@ -1,13 +1,10 @@
 use mathlib.Core.Path.{◌≡◌}
-use Prim.Native.Nat.{◌-◌, ◌≤◌}
-use lib.ListN.{length}
 use lib.Seq.{slice}
 use Rattle.runner.specs.Feeding.{Ran}
 use Rattle.runner.proofs.blocks.feed.Given as goal
 
+-- the bytes so far were run, and the writer still writes to `out`
 abbrev pub invariant-loop-i : goal.invariant-loop-i
 invariant-loop-i l =
-    (l.from ≤ l.i) × (l.i ≤ length l.input) × (length l.words ≡ length l.fn.words) × (length l.line ≡ length l.fn.line) × (length l.out ≡ length l.fn.out) × Ran (slice l.from l.i l.input) l.begun l.fn.line l.fn.words 0 l.fn.out l.kept l.line l.words l.at l.out
-
-abbrev pub decreases-loop-i : goal.decreases-loop-i
-decreases-loop-i l = length l.input - l.i
+    Ran (slice l.from l.i l.input) l.begun l.fn.line l.fn.words 0 l.fn.out l.kept l.line l.words l.writer.at l.writer.out.now
+    × (l.writer.out.ghost_name ≡ l.initial.writer.out.ghost_name)

@@ -1,18 +1,13 @@
 -- `runner::feed_rest` meets its contract. Assumes nothing.
-use mathlib.Core.Path.{sym}
 use native.Mathlib.Omega.{arith}
-use lib.Seq.{length-take-le}
 use borrow.Author.Rules.{rules}
 use Rattle.runner.proofs.Running.{rest_answered, no_rest}
 use Rattle.runner.proofs.blocks.feed_rest.Goals as goal
 
-pub slice_bounds-answer_line-end : goal.slice_bounds-answer_line-end
-slice_bounds-answer_line-end c = sym (length-take-le c.args.begun c.args.line.now (search rules))
-
 pub returns-then-is_begun : goal.returns-then-is_begun
 returns-then-is_begun c =
     let a = c.args in
-    rest_answered a.begun a.line.now a.words.now 0 a.out.now (search rules) (search rules) c.answer_line.ensures
+    search (rules, rest_answered a.begun a.line.now a.words.now 0 a.out.now (search rules) (search rules) c.answer_line.ensures.prints)
 
 pub returns : goal.returns
 returns c =

@@ -8,17 +8,17 @@ use Rattle.runner.proofs.blocks.step.Goals as goal
 pub slice_bounds-answer_line-end-then-byte-eq10 : goal.slice_bounds-answer_line-end-then-byte-eq10
 slice_bounds-answer_line-end-then-byte-eq10 c = sym (length-take-le c.args.begun c.args.line.now (search rules))
 
-pub returns-then-byte-eq10 : goal.returns-then-byte-eq10
-returns-then-byte-eq10 c =
+pub returns-then-byte-eq10-clause-ran : goal.returns-then-byte-eq10-clause-ran
+returns-then-byte-eq10-clause-ran c =
     let a = c.args in
-    newline a.begun a.line.now a.words.now a.at a.out.now a.byte c.if-byte-eq10.true c.answer_line-end.ensures
+    newline a.begun a.line.now a.words.now a.writer.now.at a.writer.now.out.now a.byte c.if-byte-eq10.true c.answer_line.ensures.prints
 
-pub returns-then-begun-lt-KEPT : goal.returns-then-begun-lt-KEPT
-returns-then-begun-lt-KEPT c =
+pub returns-then-begun-lt-KEPT-clause-ran : goal.returns-then-begun-lt-KEPT-clause-ran
+returns-then-begun-lt-KEPT-clause-ran c =
     let a = c.args in
-    byte_kept a.begun a.line.now a.words.now a.at a.out.now a.byte c.if-byte-eq10.false c.if-begun-lt-KEPT.true (search rules) (search rules)
+    byte_kept a.begun a.line.now a.words.now a.writer.now.at a.writer.now.out.now a.byte c.if-byte-eq10.false c.if-begun-lt-KEPT.true (search rules) (search rules)
 
-pub returns : goal.returns
-returns c =
+pub returns-clause-ran : goal.returns-clause-ran
+returns-clause-ran c =
     let a = c.args in
-    byte_dropped a.begun a.line.now a.words.now a.at a.out.now a.byte c.if-byte-eq10.false c.if-begun-lt-KEPT.false (search rules) (search rules) (search rules)
+    byte_dropped a.begun a.line.now a.words.now a.writer.now.at a.writer.now.out.now a.byte c.if-byte-eq10.false c.if-begun-lt-KEPT.false (search rules) (search rules) (search rules)

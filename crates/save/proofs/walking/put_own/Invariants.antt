@@ -1,11 +1,6 @@
-use Prim.Native.Nat.{◌-◌, ◌≤◌}
-use Rattle.groups.specs.Groups.{spelled, Wrote}
+use Rattle.groups.specs.Groups.{spelled, WroteBy}
 use Rattle.image.specs.Image.{each, private_numbers_at}
 use Rattle.save.proofs.walking.put_own.Given as goal
 
 abbrev pub invariant-loop-n : goal.invariant-loop-n
-invariant-loop-n l =
-    (l.n ≤ 32) × (Wrote l.writes (spelled (each (private_numbers_at l.shape l.words l.vcpu.0) l.n)) l.start l.fn.out l.out l.at)
-
-abbrev pub decreases-loop-n : goal.decreases-loop-n
-decreases-loop-n l = 32 - l.n
+invariant-loop-n l = WroteBy l.writes (spelled (each (private_numbers_at l.shape l.words l.vcpu.0) l.n)) l.fn.writer l.writer

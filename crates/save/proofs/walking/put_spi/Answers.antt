@@ -1,11 +1,11 @@
 -- `save::walking::put_spi` meets its contract. Assumes nothing.
 use native.Mathlib.Omega.{arith}
 use Rattle.word.proofs.RecordWord.{decoded_in_range}
-use Rattle.save.proofs.Pieces.{fits_first, fits_next, wrote_more}
+use Rattle.save.proofs.Pieces.{fits_first, fits_next, puts_more}
 use Rattle.save.proofs.walking.put_spi.Goals as goal
 
-pub put_two-next-requires : goal.put_two-next-requires
-put_two-next-requires c =
+pub put_two-requires : goal.put_two-requires
+put_two-requires c =
     let found = c.record-found.ensures in
     let flags = c.flags_number-flags.ensures in
     (omega arith, omega arith, rw (flags.0, found) (fits_first _ _ c.requires.1))
@@ -14,13 +14,13 @@ pub owner_number-requires : goal.owner_number-requires
 owner_number-requires c =
     rw c.record-found.ensures (decoded_in_range _).owner_byte_lem
 
-pub put_two-requires : goal.put_two-requires
-put_two-requires c =
+pub put_two-requires-2 : goal.put_two-requires-2
+put_two-requires-2 c =
     let found = c.record-found.ensures in
     let flags = c.flags_number-flags.ensures in
     let owner = c.owner_number.ensures in
     let mask = c.mask_number.ensures in
-    let first = rw (flags.0, found) at c.put_two-next.ensures in
+    let first = rw (flags.0, found) at c.put_two.ensures in
     (omega arith, omega arith, rw (owner.0, mask.0, found) (fits_next _ _ c.requires.1 first))
 
 pub returns : goal.returns
@@ -29,5 +29,5 @@ returns c =
     let flags = c.flags_number-flags.ensures in
     let owner = c.owner_number.ensures in
     let mask = c.mask_number.ensures in
-    let first = rw (flags.0, found) at c.put_two-next.ensures in
-    wrote_more _ _ first (rw (owner.0, mask.0, found) at c.put_two.ensures)
+    let first = rw (flags.0, found) at c.put_two.ensures in
+    puts_more _ _ first (rw (owner.0, mask.0, found) at c.put_two-2.ensures)

@@ -17,14 +17,14 @@ returns-in_default c =
 pub loop-at-smaller : goal.loop-at-smaller
 loop-at-smaller c =
     let here = c.loop-at in
-    let inside = next_inside c.args.line.now here.at c.loop-at-test.true _ (sym c.number_at.ensures ∙ c.in-Parsed.is) in
+    let inside = next_inside c.args.line.now here.at c.loop-at-test.true _ (sym c.number_at.ensures ∙ c.in-Some.is) in
     omega arith
 
 pub loop-at-preserved : goal.loop-at-preserved
 loop-at-preserved c =
     let here = c.loop-at in
     let line = c.args.line.now in
-    let found = sym c.number_at.ensures ∙ c.in-Parsed.is in
+    let found = sym c.number_at.ensures ∙ c.in-Some.is in
     ((next_inside line here.at c.loop-at-test.true _ found).1, rw c.with-so_far.ensures (sym (numbers_more line here.at c.loop-at-test.true here.so_far _ found) ∙ here.invariant.1))
 
 pub returns : goal.returns

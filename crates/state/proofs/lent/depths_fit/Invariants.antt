@@ -1,12 +1,8 @@
 use mathlib.Core.Bool.{true}
 use mathlib.Core.Path.{◌≡◌}
-use Prim.Native.Nat.{◌≤◌, ◌-◌}
 use Rattle.state.specs.Lent.{depth_fits}
 use Rattle.state.specs.Loop.{every_below}
 use Rattle.state.proofs.lent.depths_fit.Given as goal
 
 abbrev pub invariant-loop-v : goal.invariant-loop-v
-invariant-loop-v l = (l.v ≤ l.count) × (every_below (depth_fits l.shape l.words) l.v ≡ true)
-
-abbrev pub decreases-loop-v : goal.decreases-loop-v
-decreases-loop-v l = l.count - l.v
+invariant-loop-v l = every_below (depth_fits l.shape l.words) l.v ≡ true

@@ -1,5 +1,0 @@
-use Rattle.script.proofs.text.+put_decimal.Given as goal
-
--- a digit fewer is a smaller number
-abbrev pub decreases-put_decimal : goal.decreases-put_decimal
-decreases-put_decimal l = l.n
