@@ -159,7 +159,8 @@ class X86:
         if sets or name in ("leave", "enter", "xchg", "pushf", "popf", "syscall", "int", "iret"):
             raise Unknown(f"{it.name} {ops}")
         if m := re.search(r"-(\w+)\(%rsp", ops):
-            return ("reach", int(m[1], 0))
+            # To the end of the word, which is what a painted stack shows.
+            return ("reach", -(-int(m[1], 0) // 8) * 8)
         return ("plain", 0)
 
     @staticmethod
