@@ -189,7 +189,7 @@ fn give(words: &mut [u32], shape: Shape, vcpu: GicVcpuId, candidate: Candidate) 
     intid.0 + 1024 * (source.0 as u32)
 }
 
-// None where refusal 7 is for it: no room is left.
+// None: refused by 7, no room is left.
 fn accept(words: &mut [u32], shape: Shape, vcpu: GicVcpuId, candidate: Candidate) -> Option<u32>
     requires { (Served shape vcpu.0 words.old) × (candidate.intid.0 < shape.limit) }
     ensures { (result ≡ answered shape vcpu.0 words.old (Some candidate)) × (words.new ≡ taken shape vcpu.0 words.old (Some candidate)) }
@@ -211,7 +211,7 @@ fn take_pending_delivery(words: &mut [u32], shape: Shape, vcpu: GicVcpuId) -> Op
     }
 }
 
-// While the Distributor is off, the vCPU need not exist.
+// None: refused by 7. While the Distributor is off, the vCPU need not exist.
 pub fn acknowledge_v2(words: &mut [u32], shape: Shape, vcpu: GicVcpuId) -> Option<u32>
     requires { MayAcknowledge shape vcpu.0 words.old }
     ensures { (result ≡ acknowledge shape vcpu.0 words.old) × (words.new ≡ acknowledged shape vcpu.0 words.old) }

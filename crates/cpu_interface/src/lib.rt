@@ -53,7 +53,7 @@ pub fn write_looks_up(register: CpuInterfaceRegister, value: u32) -> bool
     }
 }
 
-// None where refusal 7 is for it.
+// None: refused by 7.
 pub fn read_register(
     words: &mut [u32],
     shape: Shape,

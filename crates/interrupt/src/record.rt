@@ -16,7 +16,7 @@ pub struct InterruptRecord {
     pub line_asserted: bool,
     pub priority: Priority,
     pub trigger: TriggerMode,
-    // The vCPUs that an SPI is offered to; none until it is first written.
+    // The vCPUs that an SPI is offered to; `None` until it is first written.
     pub cpu_target_mask: Option<u8>,
     // Who serves an interrupt in flight. The Rust keeps it in delivery slots.
     pub owner: Option<GicVcpuId>,

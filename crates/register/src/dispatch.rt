@@ -5,7 +5,7 @@ ghost use Rattle.register.specs.Ranges.{class_at, class_number};
 use crate::ranges::Class;
 
 // The class number of each 32-bit place, 16 where no range is. A row has the 32 places of 0x80 bytes, as many as most bit registers have;
-// `row` has it proved at each entry.
+// `class_number` has it proved at each entry.
 static CLASS_NUMBERS: [[u8; 32]; 32] = [
     // 0x000 GICD_CTLR, GICD_TYPER, GICD_IIDR
     [

@@ -78,7 +78,7 @@ pub fn feed_rest(words: &mut [u32], line: &[u8], begun: usize, out: &mut [u8]) -
     requires { RoomToAnswer begun line.now 0 out.old }
     ensures { Prints (rest_printed (take begun line.now) words.old) 0 words.new out.old out.new result }
 {
-    // Named, so that no goal's name hangs on the number.
+    // Named, so that no goal's name hangs on the number that a wrong answer changes.
     let is_begun = 0 < begun;
     if is_begun {
         let mut writer = Writer { out, at: 0 };

@@ -164,7 +164,7 @@ fn put_each<F: Fn(&mut Writer<'_>, &[u32], Shape, GicVcpuId, bool)>(
     }
 }
 
-// The four sections of an image, each with its loop: what is told once of a section is not asked of each number in it.
+// The four sections of an image, three by `put_each` and the last with a loop of its own: what is told once of a section is not asked of each number in it.
 fn put_interfaces(writer: &mut Writer<'_>, words: &[u32], shape: Shape, writes: bool)
     requires { (Sound shape words.now) × (FitsIn writes (each (interface_numbers shape words.now) shape.count) writer.old) }
     ensures { WroteBy writes (spelled (each (interface_numbers shape words.now) shape.count)) writer.old writer.new }
