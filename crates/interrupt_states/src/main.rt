@@ -65,94 +65,108 @@ impl fmt::Display for Record {
     }
 }
 
-fn show(out: Stdout, record: InterruptRecord) -> io::Result<()> {
-    print!(out; " {}", Record(record))
+fn answer(b: bool) -> &'static str {
+    if b { "yes" } else { "no" }
 }
 
-fn show_bool(out: Stdout, b: bool) -> io::Result<()> {
-    print!(out; " {}", if b { "yes" } else { "no" })
-}
-
-fn show_state(out: Stdout, state: InterruptState) -> io::Result<()> {
-    let name = match state {
+fn state_name(state: InterruptState) -> &'static str {
+    match state {
         InterruptState::Inactive => "Inactive",
         InterruptState::Pending => "Pending",
         InterruptState::Active => "Active",
         InterruptState::ActivePending => "ActivePending",
-    };
-    print!(out; " {name}")
+    }
 }
 
+// What a function shows it prints at once, since each `print!` is a write of its own.
 fn accessors(out: Stdout, r: InterruptRecord) -> io::Result<()> {
-    show_state(out, r.state())?;
-    show_bool(out, r.has_delivery_state())?;
-    show_bool(out, r.deliverable())
+    print!(out;
+        " {} {} {} {}",
+        Record(r),
+        state_name(r.state()),
+        answer(r.has_delivery_state()),
+        answer(r.deliverable()),
+    )
 }
 
 fn bits(out: Stdout, r: InterruptRecord) -> io::Result<()> {
-    show(out, r.set_enabled(false))?;
-    show(out, r.set_enabled(true))?;
-    show(out, r.set_pending(false))?;
-    show(out, r.set_pending(true))?;
-    show(out, r.set_active(false))?;
-    show(out, r.set_active(true))?;
-    show(out, r.set_state(InterruptState::Inactive))?;
-    show(out, r.set_state(InterruptState::Pending))?;
-    show(out, r.set_state(InterruptState::Active))?;
-    show(out, r.set_state(InterruptState::ActivePending))
+    print!(out;
+        " {} {} {} {} {} {} {} {} {} {}",
+        Record(r.set_enabled(false)),
+        Record(r.set_enabled(true)),
+        Record(r.set_pending(false)),
+        Record(r.set_pending(true)),
+        Record(r.set_active(false)),
+        Record(r.set_active(true)),
+        Record(r.set_state(InterruptState::Inactive)),
+        Record(r.set_state(InterruptState::Pending)),
+        Record(r.set_state(InterruptState::Active)),
+        Record(r.set_state(InterruptState::ActivePending)),
+    )
 }
 
 fn synchronized(out: Stdout, r: InterruptRecord, state: InterruptState) -> io::Result<()> {
     let got = r.synchronize_inflight(state);
-    show(out, got.after)?;
-    show_state(out, got.merged)
+    print!(out; " {} {}", Record(got.after), state_name(got.merged))
 }
 
 fn delivery(out: Stdout, r: InterruptRecord) -> io::Result<()> {
-    show(out, r.clear_delivery_state())?;
-    show(out, r.mark_inflight())?;
+    print!(out;
+        " {} {}",
+        Record(r.clear_delivery_state()),
+        Record(r.mark_inflight())
+    )?;
     synchronized(out, r, InterruptState::Inactive)?;
     synchronized(out, r, InterruptState::Pending)?;
     synchronized(out, r, InterruptState::Active)?;
     synchronized(out, r, InterruptState::ActivePending)?;
-    show(out, r.cancel_inflight())?;
-    show(out, r.finish_inflight())?;
-    show(out, r.deactivate_inflight(false))?;
-    show(out, r.deactivate_inflight(true))?;
-    show(out, r.complete())
+    print!(out;
+        " {} {} {} {} {}",
+        Record(r.cancel_inflight()),
+        Record(r.finish_inflight()),
+        Record(r.deactivate_inflight(false)),
+        Record(r.deactivate_inflight(true)),
+        Record(r.complete()),
+    )
 }
 
 fn inputs(out: Stdout, r: InterruptRecord) -> io::Result<()> {
-    show(out, after_level(r, false))?;
-    show(out, after_level(r, true))?;
-    show(out, after_pulse(r))
+    print!(out;
+        " {} {} {}",
+        Record(after_level(r, false)),
+        Record(after_level(r, true)),
+        Record(after_pulse(r)),
+    )
 }
 
 fn settings(out: Stdout, r: InterruptRecord) -> io::Result<()> {
-    show(out, r.set_priority(Priority::new(0)))?;
-    show(out, r.set_priority(Priority::new(128)))?;
-    show(out, r.set_priority(Priority::new(255)))?;
-    show(out, r.set_trigger(TriggerMode::Level))?;
-    show(out, r.set_trigger(TriggerMode::Edge))?;
-    show(out, r.set_cpu_target_mask(0))?;
-    show(out, r.set_cpu_target_mask(165))?;
-    show(out, r.set_cpu_target_mask(255))
+    print!(out;
+        " {} {} {} {} {} {} {} {}",
+        Record(r.set_priority(Priority::new(0))),
+        Record(r.set_priority(Priority::new(128))),
+        Record(r.set_priority(Priority::new(255))),
+        Record(r.set_trigger(TriggerMode::Level)),
+        Record(r.set_trigger(TriggerMode::Edge)),
+        Record(r.set_cpu_target_mask(0)),
+        Record(r.set_cpu_target_mask(165)),
+        Record(r.set_cpu_target_mask(255)),
+    )
 }
 
 // The new record of a number at both triggers.
 fn new_row(out: Stdout, raw: u32) -> io::Result<()> {
-    print!(out; "{raw}")?;
     let Some(intid) = IntId::new(raw) else {
-        return println!(out; " none");
+        return println!(out; "{raw} none");
     };
-    show(out, InterruptRecord::new(intid, TriggerMode::Level))?;
-    show(out, InterruptRecord::new(intid, TriggerMode::Edge))?;
-    println!(out; "")
+    println!(out;
+        "{raw} {} {}",
+        Record(InterruptRecord::new(intid, TriggerMode::Level)),
+        Record(InterruptRecord::new(intid, TriggerMode::Edge)),
+    )
 }
 
 fn state_row(out: Stdout, w: u32) -> io::Result<()> {
     let r = word::decode(w);
-    show(out, r)?;
     accessors(out, r)?;
     bits(out, r)?;
     delivery(out, r)?;

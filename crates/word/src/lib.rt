@@ -59,10 +59,14 @@ fn set_bit(mask: Option<u8>) -> u32
     bit(mask.is_some())
 }
 
+// Of no mask first: by `unwrap_or`, whose test is of the other case, every call that stores a record takes a word more of the stack on x86-64.
 pub fn mask_byte(mask: Option<u8>) -> u8
     ensures { result ≡ mask_byte mask }
 {
-    mask.unwrap_or(0)
+    match mask {
+        None => 0,
+        Some(byte) => byte,
+    }
 }
 
 // The remainder is the number itself below `OWNERS`, and lets any owner be encoded.
