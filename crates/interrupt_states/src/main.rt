@@ -65,7 +65,7 @@ impl fmt::Display for Record {
     }
 }
 
-fn answer(b: bool) -> &'static str {
+fn yes_or_no(b: bool) -> &'static str {
     if b { "yes" } else { "no" }
 }
 
@@ -78,14 +78,14 @@ fn state_name(state: InterruptState) -> &'static str {
     }
 }
 
-// What a function shows it prints at once, since each `print!` is a write of its own.
+// A record, and what is asked of it. Each `print!` is a write of its own, so what follows one another is printed at once, here and below.
 fn accessors(out: Stdout, r: InterruptRecord) -> io::Result<()> {
     print!(out;
         " {} {} {} {}",
         Record(r),
         state_name(r.state()),
-        answer(r.has_delivery_state()),
-        answer(r.deliverable()),
+        yes_or_no(r.has_delivery_state()),
+        yes_or_no(r.deliverable()),
     )
 }
 
@@ -114,7 +114,7 @@ fn delivery(out: Stdout, r: InterruptRecord) -> io::Result<()> {
     print!(out;
         " {} {}",
         Record(r.clear_delivery_state()),
-        Record(r.mark_inflight())
+        Record(r.mark_inflight()),
     )?;
     synchronized(out, r, InterruptState::Inactive)?;
     synchronized(out, r, InterruptState::Pending)?;
