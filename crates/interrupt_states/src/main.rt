@@ -78,7 +78,7 @@ fn state_name(state: InterruptState) -> &'static str {
     }
 }
 
-// A record, and what is asked of it. Each `print!` is a write of its own, so what follows one another is printed at once, here and below.
+// A record, and what is asked of it. Each `print!` is a write of its own, so neighbours are printed at once, here and below.
 fn accessors(out: Stdout, r: InterruptRecord) -> io::Result<()> {
     print!(out;
         " {} {} {} {}",
